@@ -1,0 +1,9 @@
+pub mod Words
+pub mod Legal
+pub mod Questions
+pub mod Sending
+pub mod Accepted
+pub mod Inverting
+pub mod RoundTrip
+pub mod Unread
+pub mod One

@@ -1,0 +1,138 @@
+-- `frame::read_fields` meets its contract.
+-- Assumes nothing.
+use Prim.Native.Nat.{ℕ, _-_, _<_}
+use mathlib.Core.Path.{_≡_, sym, ap, _∙_}
+use mathlib.Core.Bool.{Bool, true, _&&_, _||_}
+use borrow.Author.Needs.{needs}
+use mathlib.Core.List.{List}
+use mathlib.Core.Logic.{inl, inr, ⊎-elim}
+use lib.Dec.{eqb}
+use lib.ListN.{length, take, drop}
+use Rattle.bits.specs.Bits.{bits, number, isZero, all}
+use Rattle.timeword.specs.TimeWord.{reading}
+use Rattle.timeword.specs.declared.Corrected.{Corrected}
+use Rattle.frame.specs.Frame.{wordIn}
+use Rattle.frame.specs.Entry.{Entry}
+use Rattle.frame.specs.Reading.{entry, enough, entryOf}
+use Rattle.frame.proofs.Legal.{seconds-long}
+use Rattle.frame.proofs.Questions.{entryAt, entry-is, same-entry, either, no-10, no-11, no-12, no-13, yes-13}
+use Rattle.frame.proofs.read_fields.Statement.{statement}
+use Rattle.frame.proofs.read_fields.Tie as tie
+
+module _ (a : tie.After-read-row) where
+  abbrev f : List ℕ
+  f = a .before .before .args .frame .now
+
+  abbrev x : ℕ
+  x = a .before .before .args .word
+
+  abbrev one : Bool
+  one = a .before .before .args .alone
+
+  -- the entry, with the time word read as t
+  abbrev at : Corrected → Entry
+  at t = entryAt x t (a .before .before .args .state)
+
+  is : entryOf f ≡ at (reading (bits 31 (number (wordIn (bits 59 x)))))
+  is = entry-is f x (a .before .before .args .state) (a .before .before .pre .0) (a .before .before .pre .1)
+
+module _ (d : tie.After-decode) where
+  abbrev r : tie.After-read-row
+  r = d .before .before .before
+
+  abbrev e : Entry
+  e = at r (d .decode .result)
+
+  e-is : entryOf (f r) ≡ e
+  e-is = is r ∙ ap (at r) (sym (d .decode .ensures ∙ ap (λ (n : ℕ). reading (bits 31 n)) (d .before .time-word .ensures)))
+
+  row-ok : e .row < 52
+  row-ok = rw (← r .read-row .ensures) (d .before .before .if1 .left)
+
+module _ (j : tie.Joined3) where
+  abbrev d′ : tie.After-decode
+  d′ = j .before .before .before
+
+  q12 : (eqb (e d′ .place) 0 || eqb (e d′ .echo) 1) ≡ true
+  q12 = either (e d′ .place) (e d′ .echo) (⊎-elim (λ w. inr (sym (j .before .echo-right .ensures) ∙ w .1 .left)) (λ w. inl (w .left)) (j .if3 .came))
+
+module _ (c : tie.After-ends-right) where
+  abbrev j′ : tie.Joined3
+  j′ = c .before .before
+
+  q13 : c .ends-right .result ≡ (enough (one (r (d′ j′))) (e (d′ j′) .seconds) (length (f (r (d′ j′)))) && all isZero (take (e (d′ j′) .seconds - 59) (drop 59 (f (r (d′ j′))))))
+  q13 = rw (← c .before .length-for .ensures) (c .ends-right .ensures)
+
+cast-read-row : tie.Need-cast-read-row
+cast-read-row c = search needs
+
+read-row-requires : tie.Need-read-row-requires
+read-row-requires c κs = search needs
+
+returns : tie.Need-returns
+returns c = let a = c .before in
+    rw (is a) (sym (no-10 (one a) (f a) (at a (reading (bits 31 (number (wordIn (bits 59 (x a))))))) (rw (← a .read-row .ensures) (c .if1 .taken))))
+
+time-word-requires : tie.Need-time-word-requires
+time-word-requires c κs = search needs
+
+decode-requires : tie.Need-decode-requires
+decode-requires c κs = search needs
+
+returns-2 : tie.Need-returns-2
+returns-2 c = let d = c .before in
+    rw (e-is d) (sym (no-11 (one (r d)) (f (r d)) (e d) (row-ok d) (c .if2 .taken)))
+
+echo-right-requires : tie.Need-echo-right-requires
+echo-right-requires c κs = search needs
+
+returns-3 : tie.Need-returns-3
+returns-3 c = let d = c .before .before .before .before in
+    rw (e-is d) (sym (no-12 (one (r d)) (f (r d)) (e d) (row-ok d) (c .before .before .before .if2 .left) (c .before .if3 .taken) (rw (← c .before .before .echo-right .ensures) (c .if4 .taken))))
+
+length-for-requires : tie.Need-length-for-requires
+length-for-requires c κs = search needs
+
+cast-ends-right : tie.Need-cast-ends-right
+cast-ends-right c = search needs
+
+ends-right-requires : tie.Need-ends-right-requires
+ends-right-requires c κs = rw (c .length-for .ensures) (seconds-long _ _)
+
+cast-row : tie.Need-cast-row
+cast-row c = search needs
+
+cast-notice : tie.Need-cast-notice
+cast-notice c = search needs
+
+returns-4 : tie.Need-returns-4
+returns-4 c = let d = d′ (c .before .before .before) in
+    rw (e-is d)
+    (ap entry
+    (same-entry (x (r d)) (d .decode .result) (r d .before .before .args .state) (c .before .before .length-for .result) (r d .read-row .result) (c .before .before .before .before .echo-right .result) (c .before .before .length-for .ensures) (r d .read-row .ensures) (c .before .before .before .before .echo-right .ensures))
+    ∙ sym (yes-13 (one (r d)) (f (r d)) (e d) (row-ok d) (c .before .before .before .before .before .if2 .left) (q12 (c .before .before .before)) (sym (q13 (c .before)) ∙ c .if5 .taken)))
+
+returns-5 : tie.Need-returns-5
+returns-5 c = let d = d′ (c .before .before .before) in
+    rw (e-is d)
+    (sym (no-13 (one (r d)) (f (r d)) (e d) (row-ok d) (c .before .before .before .before .before .if2 .left) (q12 (c .before .before .before)) (sym (q13 (c .before)) ∙ c .if5 .left)))
+
+pub read-fields-spec : {M : Type 1} → statement M
+read-fields-spec =
+    tie.close
+    (tie.spec
+    cast-read-row
+    read-row-requires
+    returns
+    time-word-requires
+    decode-requires
+    returns-2
+    echo-right-requires
+    returns-3
+    length-for-requires
+    cast-ends-right
+    ends-right-requires
+    cast-row
+    cast-notice
+    returns-4
+    returns-5)

@@ -1,0 +1,5 @@
+pub mod Frame
+pub mod Entry
+pub mod Inverting
+pub mod Reading
+pub mod Answer

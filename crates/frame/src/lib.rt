@@ -1,0 +1,291 @@
+// One frame: its bits from its fields, writing it, reading it, and its entry.
+ghost use mathlib.Core.Path.{_≡_};
+ghost use mathlib.Core.Bool.{true, _&&_};
+ghost use mathlib.Core.List.{_++_};
+ghost use Prim.Native.Nat.{_+_, _-_, _*_, _/_, _%_, _^_, _≤_, _<_};
+ghost use lib.ListN.{length, take, drop, getD};
+ghost use Rattle.bits.specs.Bits.{bits, number, pick, isZero, all};
+ghost use lib.Dec.{eqb};
+ghost use Rattle.calendar.specs.Calendar.{minuteCount, lastOfMonth};
+ghost use Rattle.timeword.specs.TimeWord.{codeWord};
+ghost use Rattle.codewords.specs.CodeWords.{leapNumber, stateNumber, stateOf, stateWords};
+ghost use Rattle.plan.specs.Plan.{legalPlan, lengthAt};
+ghost use Rattle.frame.specs.Frame.{sentBy, body, bodyOf, frame, wordIn, stateIn, nextIn};
+ghost use Rattle.frame.specs.Entry.{entryBytes};
+ghost use Rattle.frame.specs.Reading.{secondsFor, enough, entryOf, askFields, readFrame, readOne};
+ghost use Rattle.frame.specs.Answer.{refusalNumber, entryFrom, frameNumbers, endNumber, endOutcome};
+use bits::Gathered;
+use calendar::Date;
+use codewords::LeapState;
+use codewords::State;
+use codewords::StateAnswer;
+use plan::Plan;
+
+// The question of document 01 that got a no, numbers 5 to 14.
+pub enum Refusal {
+    EntrySpace,
+    Short,
+    NotBits,
+    Sync,
+    StateWord,
+    NextWord,
+    Minute,
+    Echo,
+    Length,
+    Order,
+}
+
+// What a frame says beside its state. The place is the repaired one, or 0; the echo is 1 where it is right.
+pub struct Fields {
+    pub minute: u32,
+    pub length: u8,
+    pub row: u8,
+    pub notice: u8,
+    pub place: u8,
+    pub echo: u8,
+}
+
+// The frame's state and fields, or the refusal.
+pub enum FrameAnswer {
+    Read(State, Fields),
+    Refused(Refusal),
+}
+
+// How a reading ended.
+pub enum End {
+    Complete,
+    Refused(Refusal),
+}
+
+impl Refusal {
+    // The number of the question.
+    pub fn number(self) -> u32
+        ensures { λ r. ⌜ r ≡ refusalNumber self ⌝ }
+    {
+        match self {
+            Refusal::EntrySpace => 5,
+            Refusal::Short => 6,
+            Refusal::NotBits => 7,
+            Refusal::Sync => 8,
+            Refusal::StateWord => 9,
+            Refusal::NextWord => 10,
+            Refusal::Minute => 11,
+            Refusal::Echo => 12,
+            Refusal::Length => 13,
+            Refusal::Order => 14,
+        }
+    }
+}
+
+impl End {
+    // The refusal's number, or 0.
+    pub fn number(self) -> u32
+        ensures { λ r. ⌜ r ≡ endNumber self ⌝ }
+    {
+        match self {
+            End::Complete => 0,
+            End::Refused(refusal) => refusal.number(),
+        }
+    }
+}
+
+// The bytes of an entry.
+pub const ENTRY_SIZE: usize = 12;
+
+// The synchronization word, bits 0 to 12.
+const SYNC: u64 = 0b0011101101000;
+
+// The bits of every frame but 59 and 60.
+const BODY: usize = 59;
+
+// ---- writing
+
+// Bits 0 to 58 of a frame, as a number, from its time word, echo, state word, notice and next-change word.
+fn body_word(time: u64, echo: u64, state: u64, notice: u64, next: u64) -> u64
+    requires { ⌜ («time» < 2 ^ 31) × (echo < 2) × (state < 32) × (notice < 2) × (next < 64) ⌝ }
+    ensures { λ r. ⌜ r ≡ number (body (bits 31 «time») echo (bits 5 state) notice (bits 6 next)) ⌝ }
+{
+    let a = (SYNC * 64 + time / 0x200_0000) * 2 + echo;
+    let b = a * 512 + time / 0x1_0000 % 512;
+    let c = b * 1024 + time / 128 % 512;
+    let d = c * 256 + time % 128;
+    let e = (d * 4 + state / 8) * 2 + notice;
+    (e * 8 + state % 8) * 64 + next
+}
+
+// Writes the frame of a minute to the front of out; gives its length.
+pub fn write_frame(plan: Plan, minute: u32, out: &mut [u8]) -> usize
+    requires { ⌜ (legalPlan plan ≡ true) × («minute» < minuteCount) × (lengthAt plan «minute» ≤ length (now out)) ⌝ }
+    ensures { λ r. ⌜ (r ≡ lengthAt plan «minute») × (now (out .exit) ≡ frame (sentBy plan «minute») ++ drop (lengthAt plan «minute») (now (out .entry))) ⌝ }
+{
+    let time = timeword::encode(minute) as u64;
+    let echo = (minute % 2) as u64;
+    let state = plan.state(minute);
+    let daylight = state.daylight;
+    let next = codewords::next_word(plan.row_for(daylight)) as u64;
+    let state = codewords::state_word(state) as u64;
+    let word = body_word(time, echo, state, plan.notice as u64, next);
+    let length = plan.length(minute) as usize;
+    bits::spread(word << (length - BODY), &mut out[..length]);
+    length
+}
+
+// ---- reading
+
+// The time word in the bits 0 to 58 of a frame.
+fn time_word(word: u64) -> u32
+    ensures { λ r. ⌜ r ≡ number (wordIn (bits 59 word)) ⌝ }
+{
+    let high = (word >> 40) % 64 * 512 + (word >> 30) % 512;
+    let low = (word >> 20) % 512 * 128 + (word >> 12) % 128;
+    (high * 0x1_0000 + low) as u32
+}
+
+fn state_bits(word: u64) -> u8
+    ensures { λ r. ⌜ r ≡ number (stateIn (bits 59 word)) ⌝ }
+{
+    ((word >> 10) % 4 * 8 + (word >> 6) % 8) as u8
+}
+
+// The length that a leap state and a minute call for.
+fn length_for(leap: LeapState, minute: u32) -> u8
+    ensures { λ r. ⌜ r ≡ secondsFor (leapNumber leap) (lastOfMonth minute) ⌝ }
+{
+    if Date::is_last_of_month(minute) {
+        match leap {
+            LeapState::None => 60,
+            LeapState::Negative => 59,
+            LeapState::Positive => 61,
+        }
+    } else {
+        60
+    }
+}
+
+// Question 13: as many bytes as called for, and those behind byte 58 all 0.
+fn ends_right(frame: &[u8], alone: bool, seconds: usize) -> bool
+    requires { ⌜ 59 ≤ seconds ⌝ }
+    ensures { λ r. ⌜ r ≡ (enough alone seconds (length (now (frame .entry))) && all isZero (take (seconds - 59) (drop 59 (now (frame .entry))))) ⌝ }
+{
+    if alone {
+        if seconds != frame.len() {
+            return false;
+        }
+    } else {
+        if frame.len() < seconds {
+            return false;
+        }
+    }
+    bits::is_zero(&frame[BODY..seconds])
+}
+
+// 1 where the echo in a frame equals the minute's time[0].
+fn echo_right(word: u64, minute: u32) -> u8
+    ensures { λ r. ⌜ r ≡ pick (eqb (getD (bits 59 word) 19 0) («minute» % 2)) 1 0 ⌝ }
+{
+    if (word >> 39) % 2 == (minute % 2) as u64 {
+        1
+    } else {
+        0
+    }
+}
+
+// Questions 10 to 13, of a frame whose first 59 bits and state are read.
+fn read_fields(frame: &[u8], alone: bool, word: u64, state: State) -> FrameAnswer
+    requires { ⌜ (take 59 (now frame) ≡ bits 59 word) × (stateNumber state ≡ stateOf (number (stateIn (now frame)))) ⌝ }
+    ensures { λ r. ⌜ frameNumbers r ≡ askFields alone (now (frame .entry)) (entryOf (now (frame .entry))) ⌝ }
+{
+    let daylight = state.daylight;
+    let row = codewords::read_row(daylight, (word % 64) as u8);
+    if 52 <= row {
+        return FrameAnswer::Refused(Refusal::NextWord);
+    }
+    let time = timeword::decode(time_word(word));
+    let minute = time.minute;
+    let place = time.place;
+    if Date::MINUTES <= minute {
+        return FrameAnswer::Refused(Refusal::Minute);
+    }
+    let echo = echo_right(word, minute);
+    if place != 0 {
+        if echo != 1 {
+            return FrameAnswer::Refused(Refusal::Echo);
+        }
+    }
+    let leap = state.leap;
+    let length = length_for(leap, minute);
+    if ends_right(frame, alone, length as usize) {
+        let row = row as u8;
+        let notice = ((word >> 9) % 2) as u8;
+        let fields = Fields {
+            minute,
+            length,
+            row,
+            notice,
+            place,
+            echo,
+        };
+        return FrameAnswer::Read(state, fields);
+    }
+    FrameAnswer::Refused(Refusal::Length)
+}
+
+// Reads the frame at the front of a slice: one frame alone, or the next frame of a recording.
+pub fn read_frame(frame: &[u8], alone: bool) -> FrameAnswer
+    ensures { λ r. ⌜ frameNumbers r ≡ readFrame alone (now (frame .entry)) ⌝ }
+{
+    if frame.len() < BODY {
+        return FrameAnswer::Refused(Refusal::Short);
+    }
+    let gathered = bits::gather(&frame[..BODY]);
+    let Gathered::Word(word) = gathered else {
+        return FrameAnswer::Refused(Refusal::NotBits);
+    };
+    if word >> 46 != SYNC {
+        return FrameAnswer::Refused(Refusal::Sync);
+    }
+    let answer = codewords::read_state(state_bits(word));
+    match answer {
+        StateAnswer::Legal(state) => read_fields(frame, alone, word, state),
+        StateAnswer::Illegal => FrameAnswer::Refused(Refusal::StateWord),
+    }
+}
+
+// Writes an entry to the front of out.
+pub fn put_entry(state: State, fields: Fields, out: &mut [u8])
+    requires { ⌜ 12 ≤ length (now out) ⌝ }
+    ensures { λ r. ⌜ now (out .exit) ≡ entryBytes (entryFrom state fields) ++ drop 12 (now (out .entry)) ⌝ }
+{
+    let minute = fields.minute;
+    let daylight = state.daylight;
+    let leap = state.leap;
+    out[0] = (minute / 0x100_0000 % 256) as u8;
+    out[1] = (minute / 0x1_0000 % 256) as u8;
+    out[2] = (minute / 0x100 % 256) as u8;
+    out[3] = (minute % 256) as u8;
+    out[4] = fields.length;
+    out[5] = codewords::daylight_number(daylight);
+    out[6] = codewords::leap_number(leap);
+    out[7] = fields.row;
+    out[8] = fields.notice;
+    out[9] = fields.place;
+    out[10] = fields.echo;
+    out[11] = 0;
+}
+
+// Reads one frame alone into an entry of 12 bytes.
+pub fn read_one(bits: &[u8], entry: &mut [u8]) -> End
+    ensures { λ r. ⌜ endOutcome r (now (entry .exit)) ≡ readOne (now (entry .entry)) (now (bits .entry)) ⌝ }
+{
+    if entry.len() < ENTRY_SIZE {
+        return End::Refused(Refusal::EntrySpace);
+    }
+    let answer = read_frame(bits, true);
+    match answer {
+        FrameAnswer::Refused(refusal) => End::Refused(refusal),
+        FrameAnswer::Read(state, fields) => {
+            put_entry(state, fields, entry);
+            End::Complete
+        }
+    }
+}

@@ -1,0 +1,10 @@
+pub mod Sums
+pub mod Resume
+pub mod Tails
+pub mod Refusals
+pub mod Steps
+pub mod Turn
+pub mod Seconds
+pub mod RoundTrip
+pub mod Demand
+pub mod Unread

@@ -1,0 +1,167 @@
+// Recordings: many frames, written and read one behind the other.
+ghost use mathlib.Core.Path.{_≡_};
+ghost use mathlib.Core.Bool.{true};
+ghost use mathlib.Core.List.{_++_};
+ghost use Prim.Native.Nat.{_+_, _*_, _≤_, _<_};
+ghost use lib.ListN.{length, take, drop};
+ghost use Rattle.calendar.specs.Calendar.{minuteCount};
+ghost use Rattle.plan.specs.Plan.{legalPlan};
+ghost use Rattle.recording.specs.Writing.{recording, seconds, writeResult, bufferWritten, writeRefusalNumber, writeNumbers};
+ghost use Rattle.recording.specs.Reading.{follows, readInto, summaryOutcome};
+use calendar::Date;
+use frame::End;
+use frame::FrameAnswer;
+use frame::Refusal;
+use plan::Plan;
+
+// The question that writing got a no to, numbers 1 to 4.
+pub enum WriteRefusal {
+    IllegalPlan,
+    Count,
+    Minute,
+    Space,
+}
+
+// The number of bits, or the refusal.
+pub enum WriteAnswer {
+    Written(usize),
+    Refused(WriteRefusal),
+}
+
+// The minute due next: any before the first frame.
+pub enum Due {
+    Any,
+    Minute(u32),
+}
+
+// The entries written, the bits that they took, and the end.
+pub struct Summary {
+    pub entries: usize,
+    pub used: usize,
+    pub end: End,
+}
+
+impl WriteRefusal {
+    // The number of the question.
+    pub fn number(self) -> u32
+        ensures { λ r. ⌜ r ≡ writeRefusalNumber self ⌝ }
+    {
+        match self {
+            WriteRefusal::IllegalPlan => 1,
+            WriteRefusal::Count => 2,
+            WriteRefusal::Minute => 3,
+            WriteRefusal::Space => 4,
+        }
+    }
+}
+
+const MAX_COUNT: u32 = 1_000;
+
+// The bits of the frames of count minutes from the first on.
+fn bits_needed(plan: Plan, first: u32, count: u32) -> usize
+    requires { ⌜ (count ≤ 1000) × (first + count ≤ minuteCount) ⌝ }
+    ensures { λ r. ⌜ r ≡ seconds plan first count ⌝ }
+{
+    let mut sum: usize = 0;
+    let mut i: u32 = 0;
+    while i < count {
+        sum += plan.length(first + i) as usize;
+        i += 1;
+    }
+    sum
+}
+
+// Writes the frames of count minutes from the first on, each directly behind the one before.
+fn write_frames(plan: Plan, first: u32, count: u32, out: &mut [u8])
+    requires { ⌜ (legalPlan plan ≡ true) × (first + count ≤ minuteCount) × (seconds plan first count ≤ length (now out)) ⌝ }
+    ensures { λ r. ⌜ now (out .exit) ≡ recording plan first count ++ drop (seconds plan first count) (now (out .entry)) ⌝ }
+{
+    let mut at: usize = 0;
+    let mut i: u32 = 0;
+    while i < count {
+        at += frame::write_frame(plan, first + i, &mut out[at..]);
+        i += 1;
+    }
+}
+
+// Writes a recording; a refused one leaves the buffer as it was.
+pub fn write_recording(plan: Plan, first: u32, count: u32, out: &mut [u8]) -> WriteAnswer
+    ensures { λ r. ⌜ (writeNumbers r ≡ writeResult plan first count (length (now (out .entry)))) × (now (out .exit) ≡ bufferWritten plan first count (now (out .entry))) ⌝ }
+{
+    if !plan.is_legal() {
+        return WriteAnswer::Refused(WriteRefusal::IllegalPlan);
+    }
+    if count < 1 {
+        return WriteAnswer::Refused(WriteRefusal::Count);
+    }
+    if MAX_COUNT < count {
+        return WriteAnswer::Refused(WriteRefusal::Count);
+    }
+    if Date::MINUTES - count < first {
+        return WriteAnswer::Refused(WriteRefusal::Minute);
+    }
+    let needed = bits_needed(plan, first, count);
+    if out.len() < needed {
+        return WriteAnswer::Refused(WriteRefusal::Space);
+    }
+    write_frames(plan, first, count, out);
+    WriteAnswer::Written(needed)
+}
+
+// Question 14.
+fn is_due(due: Due, minute: u32) -> bool
+    ensures { λ r. ⌜ r ≡ follows due minute ⌝ }
+{
+    match due {
+        Due::Any => true,
+        Due::Minute(m) => minute == m,
+    }
+}
+
+// Reads a recording into entries of 12 bytes each.
+pub fn read_recording(bits: &[u8], entries: &mut [u8]) -> Summary
+    ensures { λ r. ⌜ summaryOutcome r (now (entries .exit)) ≡ readInto (now (entries .entry)) (now (bits .entry)) ⌝ }
+{
+    let mut used: usize = 0;
+    let mut count: usize = 0;
+    let mut due = Due::Any;
+    while used < bits.len() {
+        let from = count * frame::ENTRY_SIZE;
+        if entries.len() - from < frame::ENTRY_SIZE {
+            return Summary {
+                entries: count,
+                used,
+                end: End::Refused(Refusal::EntrySpace),
+            };
+        }
+        let answer = frame::read_frame(&bits[used..], false);
+        match answer {
+            FrameAnswer::Refused(refusal) => {
+                return Summary {
+                    entries: count,
+                    used,
+                    end: End::Refused(refusal),
+                };
+            }
+            FrameAnswer::Read(state, fields) => {
+                let minute = fields.minute;
+                if !is_due(due, minute) {
+                    return Summary {
+                        entries: count,
+                        used,
+                        end: End::Refused(Refusal::Order),
+                    };
+                }
+                frame::put_entry(state, fields, &mut entries[from..]);
+                used += fields.length as usize;
+                count += 1;
+                due = Due::Minute(minute + 1);
+            }
+        }
+    }
+    Summary {
+        entries: count,
+        used,
+        end: End::Complete,
+    }
+}

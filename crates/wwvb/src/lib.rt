@@ -1,0 +1,163 @@
+// The calls for programs in C: numbers, byte slices, and replies that are structs of numbers of one width.
+ghost use mathlib.Core.Path.{_≡_};
+ghost use lib.ListN.{length};
+ghost use Rattle.calendar.specs.Answer.{dateOfMinute, minuteOfDate};
+ghost use Rattle.frame.specs.Reading.{readOne};
+ghost use Rattle.recording.specs.Writing.{writeResult, bufferWritten};
+ghost use Rattle.recording.specs.Reading.{readInto};
+ghost use Rattle.wwvb.specs.Replies.{planOf, dateOf, replyNumbers, dateReply, minuteReply, writeReply, oneReply, readReply};
+use calendar::Date;
+use calendar::DateAnswer;
+use calendar::MinuteAnswer;
+use plan::Plan;
+use recording::WriteAnswer;
+
+// The refusal or 0, and the date; refused, every other field is 0.
+#[repr(C)]
+pub struct DateReply {
+    pub refusal: u32,
+    pub year: u32,
+    pub month: u32,
+    pub day: u32,
+    pub hour: u32,
+    pub minute: u32,
+    pub weekday: u32,
+}
+
+// The refusal or 0, and the minute; refused, the minute is 0.
+#[repr(C)]
+pub struct MinuteReply {
+    pub refusal: u32,
+    pub minute: u32,
+}
+
+// The refusal or 0, and the number of bits; refused, the bits are 0.
+#[repr(C)]
+pub struct WriteReply {
+    pub refusal: usize,
+    pub bits: usize,
+}
+
+// The entries, the bits that they took, and the refusal or 0.
+#[repr(C)]
+pub struct ReadReply {
+    pub entries: usize,
+    pub used: usize,
+    pub refusal: usize,
+}
+
+// The date of a minute.
+#[no_mangle]
+pub extern "C" fn wwvb_minute_to_date(minute: u32) -> DateReply
+    ensures { λ r. ⌜ dateReply r ≡ replyNumbers 6 (dateOfMinute minute) ⌝ }
+{
+    let answer = Date::from_minute(minute);
+    match answer {
+        DateAnswer::Found(date) => DateReply {
+            refusal: 0,
+            year: date.year,
+            month: date.month,
+            day: date.day,
+            hour: date.hour,
+            minute: date.minute,
+            weekday: date.weekday,
+        },
+        DateAnswer::TooLarge => DateReply {
+            refusal: 3,
+            year: 0,
+            month: 0,
+            day: 0,
+            hour: 0,
+            minute: 0,
+            weekday: 0,
+        },
+    }
+}
+
+// The minute of a date.
+#[no_mangle]
+pub extern "C" fn wwvb_date_to_minute(
+    year: u32,
+    month: u32,
+    day: u32,
+    hour: u32,
+    minute: u32,
+) -> MinuteReply
+    ensures { λ r. ⌜ minuteReply r ≡ replyNumbers 1 (minuteOfDate (dateOf year month day hour minute)) ⌝ }
+{
+    let date = Date {
+        year,
+        month,
+        day,
+        hour,
+        minute,
+        weekday: 0,
+    };
+    let answer = date.to_minute();
+    match answer {
+        MinuteAnswer::Found(found) => MinuteReply {
+            refusal: 0,
+            minute: found,
+        },
+        MinuteAnswer::NotReal => MinuteReply {
+            refusal: 15,
+            minute: 0,
+        },
+    }
+}
+
+// Writes a recording by the plan of the six numbers.
+#[no_mangle]
+pub extern "C" fn wwvb_write_recording(
+    kind: u32,
+    spring: u32,
+    autumn: u32,
+    leap_month: u32,
+    leap_sign: i32,
+    notice: u32,
+    first: u32,
+    count: u32,
+    out: &mut [u8],
+) -> WriteReply
+    ensures { λ r. ⌜ (writeReply r ≡ writeResult (planOf kind spring autumn «leap_month» «leap_sign» notice) first count (length (now (out .entry)))) × (now (out .exit) ≡ bufferWritten (planOf kind spring autumn «leap_month» «leap_sign» notice) first count (now (out .entry))) ⌝ }
+{
+    let plan = Plan {
+        kind,
+        spring,
+        autumn,
+        leap_month,
+        leap_sign,
+        notice,
+    };
+    let answer = recording::write_recording(plan, first, count, out);
+    match answer {
+        WriteAnswer::Written(bits) => WriteReply { refusal: 0, bits },
+        WriteAnswer::Refused(refusal) => WriteReply {
+            refusal: refusal.number() as usize,
+            bits: 0,
+        },
+    }
+}
+
+// Reads one frame alone into an entry; gives the refusal or 0.
+#[no_mangle]
+pub extern "C" fn wwvb_read_frame(bits: &[u8], entry: &mut [u8]) -> u32
+    ensures { λ r. ⌜ oneReply r (now (entry .exit)) ≡ readOne (now (entry .entry)) (now (bits .entry)) ⌝ }
+{
+    let end = frame::read_one(bits, entry);
+    end.number()
+}
+
+// Reads a recording into entries.
+#[no_mangle]
+pub extern "C" fn wwvb_read_recording(bits: &[u8], entries: &mut [u8]) -> ReadReply
+    ensures { λ r. ⌜ readReply r (now (entries .exit)) ≡ readInto (now (entries .entry)) (now (bits .entry)) ⌝ }
+{
+    let summary = recording::read_recording(bits, entries);
+    let end = summary.end;
+    ReadReply {
+        entries: summary.entries,
+        used: summary.used,
+        refusal: end.number() as usize,
+    }
+}
