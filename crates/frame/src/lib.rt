@@ -147,18 +147,25 @@ fn state_bits(word: u64) -> u8
     ((word >> 10) % 4 * 8 + (word >> 6) % 8) as u8
 }
 
-// The length that a leap state and a minute call for.
+// The seconds of a minute, where the last minute of a month has the given number.
+fn seconds_with(last: u8, minute: u32) -> u8
+    ensures { λ r. ⌜ r ≡ pick (lastOfMonth minute) last 60 ⌝ }
+{
+    if Date::is_last_of_month(minute) {
+        last
+    } else {
+        60
+    }
+}
+
+// The length that a leap state and a minute call for; the calendar is asked only where there is a leap second.
 fn length_for(leap: LeapState, minute: u32) -> u8
     ensures { λ r. ⌜ r ≡ secondsFor (leapNumber leap) (lastOfMonth minute) ⌝ }
 {
-    if Date::is_last_of_month(minute) {
-        match leap {
-            LeapState::None => 60,
-            LeapState::Negative => 59,
-            LeapState::Positive => 61,
-        }
-    } else {
-        60
+    match leap {
+        LeapState::None => 60,
+        LeapState::Negative => seconds_with(59, minute),
+        LeapState::Positive => seconds_with(61, minute),
     }
 }
 
