@@ -132,10 +132,10 @@ pub extern "C" fn wwvb_write_recording(
     let answer = recording::write_recording(plan, first, count, out);
     match answer {
         WriteAnswer::Written(bits) => WriteReply { refusal: 0, bits },
-        WriteAnswer::Refused(refusal) => WriteReply {
-            refusal: refusal.number() as usize,
-            bits: 0,
-        },
+        WriteAnswer::Refused(question) => {
+            let refusal = question.number() as usize;
+            WriteReply { refusal, bits: 0 }
+        }
     }
 }
 
@@ -155,9 +155,10 @@ pub extern "C" fn wwvb_read_recording(bits: &[u8], entries: &mut [u8]) -> ReadRe
 {
     let summary = recording::read_recording(bits, entries);
     let end = summary.end;
+    let refusal = end.number() as usize;
     ReadReply {
         entries: summary.entries,
         used: summary.used,
-        refusal: end.number() as usize,
+        refusal,
     }
 }

@@ -1,26 +1,24 @@
+-- `wwvb::wwvb_read_frame` meets its contract: that of `frame::read_one`, its end as a number.
+-- Assumes nothing.
+use Prim.Native.Nat.{ℕ}
+use mathlib.Core.Path.{ap, _∙_}
 use borrow.Author.Needs.{needs}
+use Rattle.wwvb.specs.Replies.{oneReply}
 use Rattle.wwvb.proofs.wwvb_read_frame.Statement.{statement}
 use Rattle.wwvb.proofs.wwvb_read_frame.Tie as tie
-use Rattle.wwvb.proofs.wwvb_read_frame.Reads as reads
-use Rattle.wwvb.proofs.wwvb_read_frame.Lts as lts
-use Rattle.frame.proofs.End.number.Reads as number-reads
-use Rattle.frame.proofs.read_one.Reads as read-one-reads
 
--- src/lib.rt:147:9
 read-one-requires : tie.Need-read-one-requires
 read-one-requires c κs = search needs
 
--- src/lib.rt:148:5
 number-requires : tie.Need-number-requires
 number-requires c κs = search needs
 
--- src/lib.rt:143:1
 same-length : tie.Need-same-length
 same-length c = search needs
 
--- src/lib.rt:143:1
 returns : tie.Need-returns
-returns c = ?
+returns c = let one = c .before .before .before .read-one in
+    ap (λ (n : ℕ). oneReply n (one .last .1 .0)) (c .number .ensures) ∙ one .ensures
 
 pub wwvb-read-frame-spec : {M : Type 1} → statement M
 wwvb-read-frame-spec = tie.close (tie.spec read-one-requires number-requires same-length returns)

@@ -43,8 +43,11 @@ enum-known-answer c = search needs
 enum-known-answer-2 : tie.Need-enum-known-answer-2
 enum-known-answer-2 c = search needs
 
-write-refusal-number-requires : tie.Need-write-refusal-number-requires
-write-refusal-number-requires c κs = search needs
+number-requires : tie.Need-number-requires
+number-requires c κs = search needs
+
+cast-refusal : tie.Need-cast-refusal
+cast-refusal c = search needs
 
 same-length : tie.Need-same-length
 same-length c = search needs
@@ -60,7 +63,7 @@ same-length-2 c = search needs
 returns-2 : tie.Need-returns-2
 returns-2 c = let w = c .before .before .before .before .before .before .write-recording in
     let a = c .before .before .before .before .before .before .before .before .before in
-    (numbers a (ap refusedWith (c .write-refusal-number .ensures) ∙ ap writeNumbers (sym (c .before .before .answer2 .given .1)) ∙ w .ensures .0), after a (w .ensures .1))
+    (numbers a (ap refusedWith (c .number .ensures) ∙ ap writeNumbers (sym (c .before .before .answer2 .given .1)) ∙ w .ensures .0), after a (w .ensures .1))
 
 pub wwvb-write-recording-spec : {M : Type 1} → statement M
 wwvb-write-recording-spec =
@@ -69,7 +72,8 @@ wwvb-write-recording-spec =
     write-recording-requires
     enum-known-answer
     enum-known-answer-2
-    write-refusal-number-requires
+    number-requires
+    cast-refusal
     same-length
     returns
     same-length-2
