@@ -9,6 +9,7 @@ use lib.Bits.{bitAnd, bitXor, and-mask}
 use lib.Dec.{T, lit<}
 use Rattle.bits.specs.Bits.{bits, number}
 use Rattle.timeword.specs.TimeWord.{parities, codeWord, Received, invert, minuteOf, same, isCodeWord, errorPlace, reading, syndrome, par0, par1, par2, par3, par4}
+use Rattle.timeword.specs.Theorems.{OnePlaceCorrected, PlaceZero}
 use Rattle.timeword.specs.declared.Corrected.{Corrected}
 use Rattle.bits.proofs.Bits.{length-bits, binary-bits, number-bits, number-append}
 use Rattle.timeword.proofs.Invert.{same→eq, same-refl, received-invert, received-bits, invert-twice, invert-bits}
@@ -54,7 +55,7 @@ module _ (w : List ℕ) (h : Received w) where
   reading-right = (minute-lt (invert (errorPlace w) w) (received-invert (errorPlace w) w h), place-found .0, same→eq (invert (errorPlace w) w) (codeWord (minuteOf (invert (errorPlace w) w))) (place-found .1))
 
 -- the code word of a minute with one place inverted, or none, reads as that minute and that place
-pub correct : (m p : ℕ) → m < 2 ^ 26 → p < 32 → reading (invert p (codeWord m)) ≡ record { minute = m; place = p }
+pub correct : OnePlaceCorrected
 unfolding reading
 correct m p h l =
     let c : Received (codeWord m) = received-codeWord m in
@@ -63,14 +64,16 @@ correct m p h l =
     place-only (invert p (codeWord m)) (received-invert p (codeWord m) c) p l (subst (λ (v : List ℕ). T (isCodeWord v)) (sym t) (isCodeWord-codeWord m h)) in
     rw (e, t, minute-codeWord m h)
 
--- every word is the code word of one minute with one place inverted, or none; by `correct`, of no other minute or place
-pub perfect : (w : List ℕ) → Received w → (m : ℕ) × (p : ℕ) × (m < 2 ^ 26) × (p < 32) × (w ≡ invert p (codeWord m))
-perfect w h =
-    let r = reading-right w h in
-    (reading w .minute, reading w .place, r .0, r .1, sym (invert-twice (reading w .place) w (h .1)) ∙ ap (invert (reading w .place)) (r .2))
+pub place-zero : PlaceZero
+unfolding invert
+place-zero w h = (
+  λ z. rw z at (reading-right w h .2),
+  λ m l e. ap (λ (v : List ℕ). reading v .place) e ∙ ap (λ (r : Corrected). r .place) (correct m 0 l (lit< tt)),
+)
 
-pub perfect-only : (m n p q : ℕ) → m < 2 ^ 26 → n < 2 ^ 26 → p < 32 → q < 32 → invert p (codeWord m) ≡ invert q (codeWord n) → (m ≡ n) × (p ≡ q)
-perfect-only m n p q hm hn hp hq e =
+-- code words with places inverted are equal only where the minutes and the places are
+pub inverted-only : (m n p q : ℕ) → m < 2 ^ 26 → n < 2 ^ 26 → p < 32 → q < 32 → invert p (codeWord m) ≡ invert q (codeWord n) → (m ≡ n) × (p ≡ q)
+inverted-only m n p q hm hn hp hq e =
     let r : reading (invert p (codeWord m)) ≡ reading (invert q (codeWord n)) = ap reading e in
     let s : _≡_ {A = Corrected} (record { minute = m; place = p }) (record { minute = n; place = q }) = sym (correct m p hm hp) ∙ r ∙ correct n q hn hq in
     (ap (λ (a : Corrected). a .minute) s, ap (λ (a : Corrected). a .place) s)

@@ -11,8 +11,9 @@ use lib.ListN.{length}
 use borrow.Author.Tests.{eqb-true, eqb-false, eq-eqb}
 use Rattle.bits.specs.Bits.{pick, Binary}
 use Rattle.timeword.specs.TimeWord.{invert, distance, codeWord, Received, reading}
+use Rattle.timeword.specs.Theorems.{Near, ThreePlacesApart, OneCodeWordNear, ReadsTheNear}
 use Rattle.timeword.specs.declared.Corrected.{Corrected}
-use Rattle.timeword.proofs.Correct.{received-codeWord, reading-right, correct, perfect-only}
+use Rattle.timeword.proofs.Correct.{received-codeWord, reading-right, correct, inverted-only}
 
 -- place p of w, as a place of a word that has one more bit in front
 next : ℕ → ℕ
@@ -86,7 +87,7 @@ near-2 (a ∷ w) (b ∷ v) x y l d = go (eqb a b) refl d (near-2 w v (x .1) (y .
         )
 
 -- two code words within two places of each other would share a word that both read
-pub distance-3 : (m n : ℕ) → m < 2 ^ 26 → n < 2 ^ 26 → (m ≡ n → ⊥) → 3 ≤ distance (codeWord m) (codeWord n)
+pub distance-3 : ThreePlacesApart
 distance-3 m n hm hn ne = lt-of-not-le (λ d. ne (same-minute d))
   where
     cm : Received (codeWord m)
@@ -98,7 +99,7 @@ distance-3 m n hm hn ne = lt-of-not-le (λ d. ne (same-minute d))
     same-minute : distance (codeWord m) (codeWord n) ≤ 2 → m ≡ n
     same-minute d =
         let s = near-2 (codeWord m) (codeWord n) (cm .1) (cn .1) (cm .0 ∙ sym (cn .0)) d in
-        perfect-only m n (s .0) (s .1) hm hn (omega (arith, cm .0, s .2)) (omega (arith, cm .0, s .3)) (s .4) .0
+        inverted-only m n (s .0) (s .1) hm hn (omega (arith, cm .0, s .2)) (omega (arith, cm .0, s .3)) (s .4) .0
 
 -- ---- reading in the document's words: the one code word at a distance of at most 1
 
@@ -118,12 +119,16 @@ distance-invert (suc zero) (b ∷ w) = go (eqb b (1 - b))
     go false = omega (arith, distance-refl w)
 distance-invert (suc (suc p)) (b ∷ w) = rw (eq-eqb b b refl) (omega (arith, distance-invert (suc p) w))
 
-module _ (w : List ℕ) (h : Received w) where
-  pub reading-near : distance w (codeWord (reading w .minute)) ≤ 1
-  reading-near = rw (← reading-right w h .2) (distance-invert (reading w .place) w)
+pub reads-the-near : ReadsTheNear
+reads-the-near w h =
+    let r = reading-right w h in
+    ((r .0, rw (← r .2) (distance-invert (reading w .place) w)), r .1, r .2)
 
-  pub reading-nearest : (m : ℕ) → m < 2 ^ 26 → distance w (codeWord m) ≤ 1 → reading w .minute ≡ m
-  reading-nearest m l d =
-      let c : Received (codeWord m) = received-codeWord m in
-      let n = near-1 w (codeWord m) (h .1) (c .1) (h .0 ∙ sym (c .0)) d in
-      ap (λ (v : List ℕ). reading v .minute) (n .2) ∙ ap (λ (r : Corrected). r .minute) (correct m (n .0) l (omega (arith, h .0, n .1)))
+pub one-code-word-near : OneCodeWordNear
+one-code-word-near w h = (reading w .minute, reads-the-near w h .0, only)
+  where
+    only : (n : ℕ) → Near w n → n ≡ reading w .minute
+    only n near =
+        let c : Received (codeWord n) = received-codeWord n in
+        let s = near-1 w (codeWord n) (h .1) (c .1) (h .0 ∙ sym (c .0)) (near .1) in
+        sym (ap (λ (v : List ℕ). reading v .minute) (s .2) ∙ ap (λ (r : Corrected). r .minute) (correct n (s .0) (near .0) (omega (arith, h .0, s .1))))

@@ -76,7 +76,7 @@ errorPlace w = first (λ p. isCodeWord (invert p w)) 0 32
 unfoldable pub reading : List ℕ → Corrected
 reading w = record { minute = minuteOf (invert (errorPlace w) w); place = errorPlace w }
 
--- the number of places at which two words differ
+-- the number of places at which two words of equal length differ
 unfoldable pub distance : List ℕ → List ℕ → ℕ
 distance [] v = length v
 distance (a ∷ w) [] = length (a ∷ w)
