@@ -17,6 +17,7 @@ ghost use Rattle.frame.specs.Answer.{refusalNumber, entryFrom, frameNumb
 use bits::Gathered;
 use calendar::Date;
 use codewords::LeapState;
+use codewords::RowAnswer;
 use codewords::State;
 use codewords::StateAnswer;
 use plan::Plan;
@@ -203,10 +204,10 @@ fn read_fields(frame: &[u8], alone: bool, word: u64, state: State) -> FrameAnswe
     ensures { λ r. ⌜ frameNumbers r ≡ askFields alone (now (frame .entry)) (entryOf (now (frame .entry))) ⌝ }
 {
     let daylight = state.daylight;
-    let row = codewords::read_row(daylight, (word % 64) as u8);
-    if 52 <= row {
+    let found = codewords::read_row(daylight, (word % 64) as u8);
+    let RowAnswer::Assigned(row) = found else {
         return FrameAnswer::Refused(Refusal::NextWord);
-    }
+    };
     let time = timeword::decode(time_word(word));
     let minute = time.minute;
     let place = time.place;
@@ -222,7 +223,6 @@ fn read_fields(frame: &[u8], alone: bool, word: u64, state: State) -> FrameAnswe
     let leap = state.leap;
     let length = length_for(leap, minute);
     if ends_right(frame, alone, length as usize) {
-        let row = row as u8;
         let notice = ((word >> 9) % 2) as u8;
         let fields = Fields {
             minute,
