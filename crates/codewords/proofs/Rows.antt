@@ -6,10 +6,11 @@ use mathlib.Core.Path.{_≡_, refl, _∙_}
 use native.Mathlib.Omega.{arith}
 use lib.Dec.{leb, ltb, eqb, lit≤}
 use lib.ListN.{getD}
-use borrow.Author.Tests.{le-leb, lt-leb, lt-ltb, le-ltb}
+use borrow.Author.Tests.{le-leb, lt-leb, lt-ltb, le-ltb, ltb-true}
 use Rattle.bits.specs.Bits.{pick, first}
-use Rattle.codewords.specs.CodeWords.{nextWords, rowFits, rowOf, rowAmong}
-use Rattle.codewords.proofs.Search.{first-agree, first-miss, three-parts}
+use Rattle.codewords.specs.CodeWords.{nextWords, rowFits, rowOf, rowAmong, rowAnswer}
+use Rattle.codewords.specs.declared.RowAnswer.the-variants.{Assigned}
+use Rattle.codewords.proofs.Search.{first-ge, first-agree, first-miss, three-parts}
 
 module _ (d r : ℕ) where
   pub fits-spring : 1 ≤ r → r < 25 → rowFits d r ≡ ltb d 2
@@ -61,6 +62,19 @@ module _ (d v : ℕ) where
       (part-read 25 49 (lit≤ tt) (λ r m n. fits-autumn d r m n ∙ le-leb 2 d h))
       either
 
--- a row that was found, as the answer's number
-pub assigned : (row n : ℕ) → row < 52 → n ≡ row → pick (ltb row 52) row 0 ≡ n
+-- ---- the number of an assigned row
+
+pub assigned : (row n : ℕ) → row < 52 → n ≡ row → rowAnswer (Assigned row) ≡ n
 assigned row n h e = rw (lt-ltb row 52 h, e)
+
+rowOf-ge : (d v : ℕ) → 1 ≤ rowOf d v
+unfolding rowOf
+rowOf-ge d v = first-ge (λ r. rowFits d r && eqb (getD nextWords r 0) v) 1 51
+
+-- an assigned row is the row of the word, and one of the table
+pub assigned-is : (row d v : ℕ) → rowAnswer (Assigned row) ≡ rowOf d v → (row ≡ rowOf d v) × (row < 52)
+assigned-is row d v e = go (ltb row 52) refl e
+  where
+    go : (b : Bool) → ltb row 52 ≡ b → pick b row 0 ≡ rowOf d v → (row ≡ rowOf d v) × (row < 52)
+    go true p q = (q, ltb-true row 52 p)
+    go false p q = absurd (omega (arith, rowOf-ge d v))

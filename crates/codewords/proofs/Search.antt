@@ -27,6 +27,15 @@ module _ (t : ℕ → Bool) (k e : ℕ) where
   unfolding first
   search-end p = rw (p, sub-self e)
 
+pub first-ge : (t : ℕ → Bool) (k n : ℕ) → k ≤ first t k n
+unfolding first
+first-ge t k zero = le-refl k
+first-ge t k (suc n) = go (t k) (first-ge t (suc k) n)
+  where
+    go : (b : Bool) → suc k ≤ first t (suc k) n → k ≤ pick b k (first t (suc k) n)
+    go true h = le-refl k
+    go false h = omega arith
+
 -- a search goes by the numbers that it asks about
 pub first-agree : (t s : ℕ → Bool) (k n : ℕ) → ((i : ℕ) → k ≤ i → i < k + n → t i ≡ s i) → first t k n ≡ first s k n
 unfolding first
