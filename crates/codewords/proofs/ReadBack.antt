@@ -1,28 +1,27 @@
 -- The words of both tables read back, and all others are refused.
 -- Assumes nothing.
-use Prim.Native.Nat.{ℕ, _+_, _*_, _/_, _%_, _≤_, _<_}
+use Prim.Native.Nat.{ℕ, _/_, _%_, _≤_, _<_}
 use mathlib.Core.Bool.{Bool, true, false, not, _&&_}
-use mathlib.Core.Path.{_≡_, refl, sym, ap, ap₂, _∙_}
+use mathlib.Core.Path.{_≡_, refl, sym, ap, _∙_}
 use native.Mathlib.Omega.{arith}
 use lib.Dec.{T, ltb, eqb, eqb→eq}
 use lib.ListN.{getD}
-use borrow.Author.Tests.{lt-ltb, lt-leb, le-leb, le-ltb}
+use borrow.Author.Tests.{lt-ltb, le-leb}
 use Rattle.bits.specs.Bits.{pick, first}
 use Rattle.bits.proofs.Tests.{upto, upto-at, and-left, and-right}
-use Rattle.codewords.specs.CodeWords.{daylightNumber, leapNumber, stateNumber, illegal, stateWords, stateOf, stateAnswer, unassigned, nextWords, rowFits, rowOf, rowAmong, rowAnswer}
-use Rattle.codewords.specs.Theorems.{count, stateWord, nextWord, StatesReadBack, OtherStatesIllegal, TwentyIllegal, ReadsAs, RowsReadBack, OtherRowsUnassigned, ThirtySevenUnassigned, RowOne}
+use Rattle.codewords.specs.CodeWords.{daylightNumber, leapNumber, stateNumber, stateWords, stateOf, unassigned, nextWords, rowFits, rowOf, rowAmong, rowAnswer}
+use Rattle.codewords.specs.Theorems.{count, nextWord, StatesReadBack, OtherStatesIllegal, TwentyIllegal, ReadsAs, RowsReadBack, OtherRowsUnassigned, ThirtySevenUnassigned, RowOne}
 use Rattle.codewords.specs.declared.State.{State}
 use Rattle.codewords.specs.declared.DaylightState.{DaylightState}
 use Rattle.codewords.specs.declared.DaylightState.the-variants.{Standard, Begins, Daylight, Ends}
 use Rattle.codewords.specs.declared.LeapState.{LeapState}
 use Rattle.codewords.specs.declared.LeapState.the-variants.{None, Negative, Positive}
-use Rattle.codewords.specs.declared.StateAnswer.{StateAnswer}
 use Rattle.codewords.specs.declared.StateAnswer.the-variants.{Legal, Illegal}
 use Rattle.codewords.specs.declared.RowAnswer.{RowAnswer}
 use Rattle.codewords.specs.declared.RowAnswer.the-variants.{Assigned, Unassigned}
 use Rattle.codewords.proofs.Search.{first-miss}
 use Rattle.codewords.proofs.Rows.{fits-spring, fits-autumn, fits-either, assigned-is}
-use Rattle.codewords.proofs.Tables.{daylight-lt, leap-lt, state-lt, state-back, row-back}
+use Rattle.codewords.proofs.Tables.{daylight-lt, state-lt, state-back, row-back}
 
 -- ---- states by their numbers
 

@@ -12,7 +12,7 @@ use Rattle.codewords.specs.declared.DaylightState.{DaylightState}
 use Rattle.codewords.specs.declared.StateAnswer.{StateAnswer}
 use Rattle.codewords.specs.declared.StateAnswer.the-variants.{Legal}
 use Rattle.codewords.specs.declared.RowAnswer.{RowAnswer}
-use Rattle.codewords.specs.declared.RowAnswer.the-variants.{Assigned, Unassigned}
+use Rattle.codewords.specs.declared.RowAnswer.the-variants.{Assigned}
 
 -- how many of the numbers below n pass a test
 unfoldable pub count : (ℕ → Bool) → ℕ → ℕ
