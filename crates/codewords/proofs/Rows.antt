@@ -46,7 +46,7 @@ module _ (d v : ℕ) where
   either = part-read 49 52 (lit≤ tt) (fits-either d)
 
   -- with dst_on[1] 0, and with 1
-  pub row-spring : d < 2 → rowOf d v ≡ pick (ltb (rowAmong 1 25 v) 25) (rowAmong 1 25 v) (rowAmong 49 52 v)
+  row-spring : d < 2 → rowOf d v ≡ pick (ltb (rowAmong 1 25 v) 25) (rowAmong 1 25 v) (rowAmong 49 52 v)
   unfolding rowOf reads
   row-spring h =
       three-parts reads 1 25 49 52 (lit≤ tt) (lit≤ tt) (lit≤ tt) (rowAmong 1 25 v) 49 (rowAmong 49 52 v)
@@ -54,7 +54,7 @@ module _ (d v : ℕ) where
       (part-passed 25 49 (lit≤ tt) (λ r m n. fits-autumn d r m n ∙ lt-leb 2 d h))
       either
 
-  pub row-autumn : 2 ≤ d → rowOf d v ≡ pick (ltb (rowAmong 25 49 v) 49) (rowAmong 25 49 v) (rowAmong 49 52 v)
+  row-autumn : 2 ≤ d → rowOf d v ≡ pick (ltb (rowAmong 25 49 v) 49) (rowAmong 25 49 v) (rowAmong 49 52 v)
   unfolding rowOf reads
   row-autumn h =
       three-parts reads 1 25 49 52 (lit≤ tt) (lit≤ tt) (lit≤ tt) 25 (rowAmong 25 49 v) (rowAmong 49 52 v)
@@ -62,10 +62,25 @@ module _ (d v : ℕ) where
       (part-read 25 49 (lit≤ tt) (λ r m n. fits-autumn d r m n ∙ le-leb 2 d h))
       either
 
--- ---- the number of an assigned row
+-- ---- the steps of a reader: x is what the search of the first part gives
 
 pub assigned : (row n : ℕ) → row < 52 → n ≡ row → rowAnswer (Assigned row) ≡ n
 assigned row n h e = rw (lt-ltb row 52 h, e)
+
+module _ (d v x : ℕ) where
+  pub spring-has : d < 2 → x ≡ rowAmong 1 25 v → x < 25 → rowAnswer (Assigned x) ≡ rowOf d v
+  spring-has h e l = assigned x (rowOf d v) (omega arith) (row-spring d v h ∙ rw (← e, lt-ltb x 25 l))
+
+  pub spring-lacks : d < 2 → x ≡ rowAmong 1 25 v → 25 ≤ x → rowOf d v ≡ rowAmong 49 52 v
+  spring-lacks h e l = row-spring d v h ∙ rw (← e, le-ltb x 25 l)
+
+  pub autumn-has : 2 ≤ d → x ≡ rowAmong 25 49 v → x < 49 → rowAnswer (Assigned x) ≡ rowOf d v
+  autumn-has h e l = assigned x (rowOf d v) (omega arith) (row-autumn d v h ∙ rw (← e, lt-ltb x 49 l))
+
+  pub autumn-lacks : 2 ≤ d → x ≡ rowAmong 25 49 v → 49 ≤ x → rowOf d v ≡ rowAmong 49 52 v
+  autumn-lacks h e l = row-autumn d v h ∙ rw (← e, le-ltb x 49 l)
+
+-- ---- an answer with the number of the word's row
 
 rowOf-ge : (d v : ℕ) → 1 ≤ rowOf d v
 unfolding rowOf
