@@ -9,13 +9,14 @@ use lib.ListN.{getD}
 use borrow.Author.Tests.{lt-ltb, le-leb}
 use Rattle.bits.specs.Bits.{pick, first}
 use Rattle.bits.proofs.Tests.{upto, upto-at, and-left, and-right}
-use Rattle.codewords.specs.CodeWords.{daylightNumber, leapNumber, stateNumber, stateWords, stateOf, unassigned, nextWords, rowFits, rowOf, rowAmong, rowAnswer}
-use Rattle.codewords.specs.Theorems.{count, nextWord, StatesReadBack, OtherStatesIllegal, TwentyIllegal, ReadsAs, RowsReadBack, OtherRowsUnassigned, ThirtySevenUnassigned, RowOne}
+use Rattle.codewords.specs.CodeWords.{daylightNumber, leapNumber, stateNumber, stateWords, stateOf, stateAnswer, unassigned, nextWords, rowFits, rowOf, rowAmong, rowAnswer}
+use Rattle.codewords.specs.Theorems.{count, stateWord, nextWord, StatesReadBack, OtherStatesIllegal, TwentyIllegal, ReadsAs, RowsReadBack, OtherRowsUnassigned, ThirtySevenUnassigned, RowOne}
 use Rattle.codewords.specs.declared.State.{State}
 use Rattle.codewords.specs.declared.DaylightState.{DaylightState}
 use Rattle.codewords.specs.declared.DaylightState.the-variants.{Standard, Begins, Daylight, Ends}
 use Rattle.codewords.specs.declared.LeapState.{LeapState}
 use Rattle.codewords.specs.declared.LeapState.the-variants.{None, Negative, Positive}
+use Rattle.codewords.specs.declared.StateAnswer.{StateAnswer}
 use Rattle.codewords.specs.declared.StateAnswer.the-variants.{Legal, Illegal}
 use Rattle.codewords.specs.declared.RowAnswer.{RowAnswer}
 use Rattle.codewords.specs.declared.RowAnswer.the-variants.{Assigned, Unassigned}
@@ -64,10 +65,14 @@ state-number k h = eqb→eq (stateNumber (stateAt k)) k (upto-at (λ j. eqb (sta
 -- ---- state words
 
 pub states-read-back : StatesReadBack
-states-read-back s (Legal r) e =
-    let n : stateNumber r ≡ stateNumber s = e ∙ state-back (stateNumber s) (state-lt s) in
-    ap Legal (sym (number-back r) ∙ ap stateAt n ∙ number-back s)
-states-read-back s Illegal e = absurd (omega (arith, e ∙ state-back (stateNumber s) (state-lt s), state-lt s))
+states-read-back s = (back, only)
+  where
+    back : stateOf (stateWord s) ≡ stateNumber s
+    back = state-back (stateNumber s) (state-lt s)
+
+    only : (a : StateAnswer) → stateAnswer a ≡ stateOf (stateWord s) → a ≡ Legal s
+    only (Legal r) e = ap Legal (sym (number-back r) ∙ ap stateAt (e ∙ back) ∙ number-back s)
+    only Illegal e = absurd (omega (arith, back, state-lt s))
 
 is-false : (b : Bool) → (T b → ⊥) → b ≡ false
 is-false true h = absurd (h tt)
@@ -87,14 +92,14 @@ twenty-illegal = refl
 -- ---- next-change words
 
 reads-as : (s : DaylightState) (r : ℕ) → r ≤ 51 → rowFits (daylightNumber s) r ≡ true → ReadsAs s r
-reads-as s r h f a e = go a e
+reads-as s r h f = (back, only)
   where
     back : rowOf (daylightNumber s) (nextWord r) ≡ r
     back = row-back (daylightNumber s) r (daylight-lt s) (rw f tt)
 
-    go : (b : RowAnswer) → rowAnswer b ≡ rowOf (daylightNumber s) (nextWord r) → b ≡ Assigned r
-    go (Assigned x) p = ap Assigned (assigned-is x (daylightNumber s) (nextWord r) p .0 ∙ back)
-    go Unassigned p = absurd (omega (arith, back))
+    only : (a : RowAnswer) → rowAnswer a ≡ rowOf (daylightNumber s) (nextWord r) → a ≡ Assigned r
+    only (Assigned x) e = ap Assigned (assigned-is x (daylightNumber s) (nextWord r) e .0 ∙ back)
+    only Unassigned e = absurd (omega (arith, back))
 
 pub rows-read-back : RowsReadBack
 rows-read-back = (

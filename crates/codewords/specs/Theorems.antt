@@ -33,9 +33,10 @@ nextWord r = getD nextWords r 0
 
 -- ---- "State word"
 
--- the word of each of the 12 states reads as that state, and as no other answer
+-- the word of each of the 12 states reads as that state, and no other answer has its number
 abbrev pub StatesReadBack : Type 0
-StatesReadBack = (s : State) (a : StateAnswer) → stateAnswer a ≡ stateOf (stateWord s) → a ≡ Legal s
+StatesReadBack =
+    (s : State) → (stateOf (stateWord s) ≡ stateNumber s) × ((a : StateAnswer) → stateAnswer a ≡ stateOf (stateWord s) → a ≡ Legal s)
 
 -- a word of no state is illegal
 abbrev pub OtherStatesIllegal : Type 0
@@ -47,9 +48,10 @@ TwentyIllegal = count (λ v. eqb (stateOf v) illegal) 32 ≡ 20
 
 -- ---- "Next-change word"
 
--- the word of row r, read in the daylight state s, gives that row, and no other answer
+-- the word of row r, read in the daylight state s, gives that row, and no other answer has its number
 abbrev pub ReadsAs : DaylightState → ℕ → Type 0
-ReadsAs s r = (a : RowAnswer) → rowAnswer a ≡ rowOf (daylightNumber s) (nextWord r) → a ≡ Assigned r
+ReadsAs s r =
+    (rowOf (daylightNumber s) (nextWord r) ≡ r) × ((a : RowAnswer) → rowAnswer a ≡ rowOf (daylightNumber s) (nextWord r) → a ≡ Assigned r)
 
 -- the word of each row reads as that row: rows 1 to 24 when dst_on[1] is 0, 25 to 48 when it is 1, 49 to 51 with either
 abbrev pub RowsReadBack : Type 0
