@@ -6,10 +6,11 @@ use mathlib.Core.Path.{_≡_, refl, _∙_}
 use native.Mathlib.Omega.{arith}
 use lib.Dec.{leb, ltb, eqb, lit≤}
 use lib.ListN.{getD}
-use borrow.Author.Tests.{le-leb, lt-leb, lt-ltb, le-ltb}
+use borrow.Author.Tests.{le-leb, lt-leb, lt-ltb, le-ltb, ltb-true}
 use Rattle.bits.specs.Bits.{pick, first}
-use Rattle.codewords.specs.CodeWords.{nextWords, rowFits, rowOf, rowAmong}
-use Rattle.codewords.proofs.Search.{first-agree, first-miss, three-parts}
+use Rattle.codewords.specs.CodeWords.{nextWords, rowFits, rowOf, rowAmong, rowAnswer}
+use Rattle.codewords.specs.declared.RowAnswer.the-variants.{Assigned}
+use Rattle.codewords.proofs.Search.{first-ge, first-agree, first-miss, three-parts}
 
 module _ (d r : ℕ) where
   pub fits-spring : 1 ≤ r → r < 25 → rowFits d r ≡ ltb d 2
@@ -45,7 +46,7 @@ module _ (d v : ℕ) where
   either = part-read 49 52 (lit≤ tt) (fits-either d)
 
   -- with dst_on[1] 0, and with 1
-  pub row-spring : d < 2 → rowOf d v ≡ pick (ltb (rowAmong 1 25 v) 25) (rowAmong 1 25 v) (rowAmong 49 52 v)
+  row-spring : d < 2 → rowOf d v ≡ pick (ltb (rowAmong 1 25 v) 25) (rowAmong 1 25 v) (rowAmong 49 52 v)
   unfolding rowOf reads
   row-spring h =
       three-parts reads 1 25 49 52 (lit≤ tt) (lit≤ tt) (lit≤ tt) (rowAmong 1 25 v) 49 (rowAmong 49 52 v)
@@ -53,7 +54,7 @@ module _ (d v : ℕ) where
       (part-passed 25 49 (lit≤ tt) (λ r m n. fits-autumn d r m n ∙ lt-leb 2 d h))
       either
 
-  pub row-autumn : 2 ≤ d → rowOf d v ≡ pick (ltb (rowAmong 25 49 v) 49) (rowAmong 25 49 v) (rowAmong 49 52 v)
+  row-autumn : 2 ≤ d → rowOf d v ≡ pick (ltb (rowAmong 25 49 v) 49) (rowAmong 25 49 v) (rowAmong 49 52 v)
   unfolding rowOf reads
   row-autumn h =
       three-parts reads 1 25 49 52 (lit≤ tt) (lit≤ tt) (lit≤ tt) 25 (rowAmong 25 49 v) (rowAmong 49 52 v)
@@ -61,6 +62,34 @@ module _ (d v : ℕ) where
       (part-read 25 49 (lit≤ tt) (λ r m n. fits-autumn d r m n ∙ le-leb 2 d h))
       either
 
--- a row that was found, as the answer's number
-pub assigned : (row n : ℕ) → row < 52 → n ≡ row → pick (ltb row 52) row 0 ≡ n
+-- ---- the steps of a reader: x is what the search of the first part gives
+
+pub assigned : (row n : ℕ) → row < 52 → n ≡ row → rowAnswer (Assigned row) ≡ n
 assigned row n h e = rw (lt-ltb row 52 h, e)
+
+module _ (d v x : ℕ) where
+  pub spring-has : d < 2 → x ≡ rowAmong 1 25 v → x < 25 → rowAnswer (Assigned x) ≡ rowOf d v
+  spring-has h e l = assigned x (rowOf d v) (omega arith) (row-spring d v h ∙ rw (← e, lt-ltb x 25 l))
+
+  pub spring-lacks : d < 2 → x ≡ rowAmong 1 25 v → 25 ≤ x → rowOf d v ≡ rowAmong 49 52 v
+  spring-lacks h e l = row-spring d v h ∙ rw (← e, le-ltb x 25 l)
+
+  pub autumn-has : 2 ≤ d → x ≡ rowAmong 25 49 v → x < 49 → rowAnswer (Assigned x) ≡ rowOf d v
+  autumn-has h e l = assigned x (rowOf d v) (omega arith) (row-autumn d v h ∙ rw (← e, lt-ltb x 49 l))
+
+  pub autumn-lacks : 2 ≤ d → x ≡ rowAmong 25 49 v → 49 ≤ x → rowOf d v ≡ rowAmong 49 52 v
+  autumn-lacks h e l = row-autumn d v h ∙ rw (← e, le-ltb x 49 l)
+
+-- ---- an answer with the number of the word's row
+
+rowOf-ge : (d v : ℕ) → 1 ≤ rowOf d v
+unfolding rowOf
+rowOf-ge d v = first-ge (λ r. rowFits d r && eqb (getD nextWords r 0) v) 1 51
+
+-- an assigned row is the row of the word, and one of the table
+pub assigned-is : (row d v : ℕ) → rowAnswer (Assigned row) ≡ rowOf d v → (row ≡ rowOf d v) × (row < 52)
+assigned-is row d v e = go (ltb row 52) refl e
+  where
+    go : (b : Bool) → ltb row 52 ≡ b → pick b row 0 ≡ rowOf d v → (row ≡ rowOf d v) × (row < 52)
+    go true p q = (q, ltb-true row 52 p)
+    go false p q = absurd (omega (arith, rowOf-ge d v))

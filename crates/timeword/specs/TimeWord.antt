@@ -9,7 +9,7 @@ use lib.ListN.{length, drop}
 use Rattle.bits.specs.Bits.{pick, bit, bits, number, Binary, first}
 use Rattle.timeword.specs.declared.Corrected.{Corrected}
 
--- the time bits listed for par[0] to par[4]
+-- time[i] is bit i of the minute. The time bits listed for par[0] to par[4]
 unfoldable pub par0 : List ℕ
 par0 = 23 ∷ 21 ∷ 20 ∷ 17 ∷ 16 ∷ 15 ∷ 14 ∷ 13 ∷ 9 ∷ 8 ∷ 6 ∷ 5 ∷ 4 ∷ 2 ∷ 0 ∷ []
 
@@ -30,7 +30,7 @@ unfoldable pub sumOf : ℕ → List ℕ → ℕ
 sumOf x [] = 0
 sumOf x (i ∷ is) = bit x i + sumOf x is
 
--- the sum modulo 2 of the listed bits of x
+-- a parity bit: the sum modulo 2 of the listed bits of x
 unfoldable pub parity : ℕ → List ℕ → ℕ
 parity x is = sumOf x is % 2
 
@@ -46,7 +46,7 @@ codeWord m = parities m ++ bits 26 m
 abbrev pub Received : List ℕ → Type 0
 Received w = (length w ≡ 31) × Binary w
 
--- w with the bit at place p inverted; place 0 is none
+-- w with the bit at place p inverted, places counted from 1; place 0 is none
 unfoldable pub invert : ℕ → List ℕ → List ℕ
 invert zero w = w
 invert (suc p) [] = []
@@ -72,7 +72,7 @@ isCodeWord w = same w (codeWord (minuteOf w))
 unfoldable pub errorPlace : List ℕ → ℕ
 errorPlace w = first (λ p. isCodeWord (invert p w)) 0 32
 
--- reading: the code word that differs from w in at most one place, as its minute and that place, or 0
+-- reading takes the one code word that differs from w in at most one place: its minute, and the place where it differs, or 0
 unfoldable pub reading : List ℕ → Corrected
 reading w = record { minute = minuteOf (invert (errorPlace w) w); place = errorPlace w }
 

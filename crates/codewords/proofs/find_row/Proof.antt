@@ -27,6 +27,9 @@ loop-holds : tie.Need-loop-holds Inv-loop μ-loop
 unfolding rowAmong is
 loop-holds c = (c .pre .0, refl)
 
+cast-k : tie.Need-cast-k Inv-loop μ-loop
+cast-k c = omega arith
+
 array-read-if1 : tie.Need-array-read-if1 Inv-loop μ-loop
 array-read-if1 c = omega arith
 
@@ -62,6 +65,7 @@ find-row-spec =
     Inv-loop
     μ-loop
     loop-holds
+    cast-k
     array-read-if1
     returns
     add-row
