@@ -29,6 +29,12 @@ chain-map {B = B} g refusal a (q ∷ qs) = go (q .1) (chain-map g refusal a qs)
     go true h = h
     go false h = refl
 
+-- one list of questions behind another
+pub chain-append : {A : Type 0} (refusal : ℕ → A) (qs rs : List Question) (a : A) → chain refusal (qs ++ rs) a ≡ chain refusal qs (chain refusal rs a)
+unfolding chain
+chain-append refusal [] rs a = refl
+chain-append refusal (q ∷ qs) rs a = rw (chain-append refusal qs rs a)
+
 -- the numbers go up, from above b to at most c
 unfoldable pub ascending : ℕ → ℕ → List Question → Bool
 ascending b c [] = true
