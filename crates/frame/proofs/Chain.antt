@@ -132,6 +132,13 @@ module _ {A : Type 0} (refusal : ℕ → A) (a : A) where
         go (all-yes q e) = absurd (not-both qs n q p)
         go (first-no m q l u e) = e ∙ ap refusal (first-unique qs m n q p)
 
+    pub no-range : (n : ℕ) → FirstNo qs n → (b < n) × (n ≤ c)
+    no-range n p = go (verdict b c qs up)
+      where
+        go : Verdict refusal a b c qs → (b < n) × (n ≤ c)
+        go (all-yes q e) = absurd (not-both qs n q p)
+        go (first-no m q l u e) = rw (first-unique qs n m p q) (l, u)
+
     -- an answer that no refusal gives comes from yes to all
     pub yes-chain : ((n : ℕ) → b < n → refusal n ≡ a → ⊥) → chain refusal qs a ≡ a → AllYes qs
     yes-chain other h = go (verdict b c qs up)

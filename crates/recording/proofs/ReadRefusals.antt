@@ -5,23 +5,27 @@ use mathlib.Core.Bool.{Bool, true, false}
 use mathlib.Core.List.{List, [], _∷_, _++_, append-assoc, append-nil}
 use mathlib.Core.Logic.{_⊎_, inl, inr, _↔_}
 use mathlib.Core.Path.{_≡_, refl, sym, ap, _∙_}
-use native.Mathlib.Nat.{add-zero, sub-zero}
+use native.Mathlib.Nat.{add-zero, zero-add, sub-zero}
 use native.Mathlib.Decide.{decLe, decLt}
 use native.Mathlib.Omega.{arith}
 use lib.Dec.{leb}
-use lib.ListN.{length, take, drop, length-append, length-drop, drop-of-length-le}
-use lib.Seq.{drop-drop}
-use borrow.Author.Tests.{le-leb, lt-leb}
+use lib.ListN.{length, take, drop, length-append, length-drop, length-take, drop-of-length-le}
+use lib.Seq.{drop-drop, drop-at, take-add, length-take-le}
+use borrow.Author.Tests.{le-leb, lt-leb, leb-true}
 use Rattle.bits.specs.Bits.{pick}
+use Rattle.bits.proofs.Tests.{head-true}
 use Rattle.frame.specs.Entry.{Entry}
 use Rattle.frame.specs.Reading.{Answer, refused, entry, entryOf, readFrame}
-use Rattle.frame.specs.Refusals.{Question, answer, AllYes, FirstNo, chosen, frameQuestions}
-use Rattle.frame.proofs.Chain.{chain, chain-map, chain-append, ascending, Verdict, verdict, all-yes, first-no, chain-yes, chain-no}
+use Rattle.frame.specs.Refusals.{Question, answer, AllYes, FirstNo, chosen, lengthCalled, frameQuestions}
+use Rattle.frame.proofs.Chain.{chain, chain-map, chain-append, ascending, Verdict, verdict, all-yes, first-no, chain-yes, chain-no, no-range}
+use Rattle.frame.proofs.Accepted.{accepted}
 use Rattle.frame.proofs.Refusals.{by-questions}
-use Rattle.recording.specs.Reading.{Found, stop, add, start, after, follows, onward, readFrames, readRecording, readInto}
+use Rattle.frame.proofs.Unread.{seconds-59, cut-answer}
+use Rattle.recording.specs.Reading.{Found, stop, add, start, after, follows, onward, readFrames, readRecording, bytesOf, Outcome, outcome, readInto}
 use Rattle.recording.specs.Refusals.{secondsOf, behind, question14, nextQuestions, Read, none, more, Ends, kept, RecordingRead, RecordingOnly, RecordingAccepted, RecordingRefused, RecordingAnswers, RecordingKept}
 use Rattle.recording.specs.declared.Due.{Due}
-use Rattle.recording.proofs.Steps.{ended, no-space, step}
+use Rattle.recording.proofs.Resume.{length-bytes}
+use Rattle.recording.proofs.Steps.{ended, no-space, step, frame-refused, out-of-order, frame-read}
 
 -- ---- entries so far, and what they leave
 
@@ -101,3 +105,154 @@ module _ (space : ℕ) (f : List ℕ) (es : List Entry) where
             let k : space / 12 - length es ≡ 0 = omega arith in
             rw (k, lt-leb 12 (space - 12 * length es) (omega arith)) (no-space (dueAfter start es) (behind f es) some)
       ]
+
+-- ---- what reading gives, by the frames that are accepted and the end
+
+before-stop : (es : List Entry) (n : ℕ) → before es (stop n) ≡ record { entries = es; used = secondsOf es; refusal = n }
+unfolding before stop
+before-stop es n = rw (append-nil es, add-zero (secondsOf es))
+
+resumed : (space : ℕ) (f : List ℕ) {es : List Entry} → Read space f es → readRecording space f ≡ before es (left space f es)
+resumed space f none = unfold readRecording before left secondsOf dueAfter in rw (sub-zero (space / 12), zero-add (readFrames (space / 12) start f .used))
+resumed space f (more es r l a) =
+    let d = e space f es in
+    resumed space f r
+    ∙ ap (before es) (left-step space f es l ∙ chain-yes stop (add d (left space f (es ++ (d ∷ [])))) 4 14 (nextQuestions space f es) (next-up space f es) a)
+    ∙ before-add es d (left space f (es ++ (d ∷ [])))
+
+left-none : (space : ℕ) (f : List ℕ) (es : List Entry) → secondsOf es ≡ length f → left space f es ≡ stop 0
+unfolding left
+left-none space f es h = rw (drop-of-length-le f {i = secondsOf es} (omega arith)) (ended (space / 12 - length es) (dueAfter start es))
+
+left-ends : (space : ℕ) (f : List ℕ) (es : List Entry) (n : ℕ) → Ends space f es n → left space f es ≡ stop n
+left-ends space f es n (inl h) = left-none space f es (h .0) ∙ ap stop (sym (h .1))
+left-ends space f es n (inr h) =
+    let d = e space f es in
+    left-step space f es (h .0) ∙ chain-no stop (add d (left space f (es ++ (d ∷ [])))) 4 14 (nextQuestions space f es) (next-up space f es) n (h .1)
+
+pub recording-only : RecordingOnly
+unfolding readInto outcome
+recording-only buffer f es n r h =
+    let s = length buffer in
+    let k : readRecording s f ≡ record { entries = es; used = secondsOf es; refusal = n } = resumed s f r ∙ ap (before es) (left-ends s f es n h) ∙ before-stop es n in
+    rw (k, length-bytes es)
+
+-- the bits of accepted frames are there
+enough-left : (space : ℕ) (f : List ℕ) (es : List Entry) → AllYes (nextQuestions space f es) → e space f es .seconds ≤ length (behind f es)
+unfolding nextQuestions frameQuestions answer entryOf
+enough-left space f es a = leb-true (lengthCalled (behind f es)) (length (behind f es)) (head-true _ _ (a 13))
+
+fits : (space : ℕ) (f : List ℕ) {es : List Entry} → Read space f es → secondsOf es ≤ length f
+fits space f none = unfold secondsOf in omega arith
+fits space f (more es r l a) = omega (arith, seconds-snoc es (e space f es), enough-left space f es a, length-drop (secondsOf es) f)
+
+-- reading comes to an end: each accepted frame takes bits
+found : (space : ℕ) (f : List ℕ) (k : ℕ) (es : List Entry) → Read space f es → length f ≤ secondsOf es + k
+    → (ds : List Entry) × (n : ℕ) × Read space f ds × Ends space f ds n
+found space f zero es r h = (es, 0, r, inl (omega (arith, fits space f r), refl))
+found space f (suc k) es r h = elim (decLt (secondsOf es) (length f)) [
+  | no l ↦ (es, 0, r, inl (omega (arith, fits space f r), refl))
+  | yes l ↦ go l (verdict (λ n. n) 0 4 14 (nextQuestions space f es) (next-up space f es)) (found space f k (es ++ (e space f es ∷ [])))
+]
+  where
+    go : secondsOf es < length f → Verdict (λ n. n) 0 4 14 (nextQuestions space f es)
+        → (Read space f (es ++ (e space f es ∷ [])) → length f ≤ secondsOf (es ++ (e space f es ∷ [])) + k → (ds : List Entry) × (n : ℕ) × Read space f ds × Ends space f ds n)
+        → (ds : List Entry) × (n : ℕ) × Read space f ds × Ends space f ds n
+    go l (all-yes p q) next = next (more es r l p) (omega (arith, seconds-snoc es (e space f es), seconds-59 (behind f es)))
+    go l (first-no n p low high q) next = (es, n, r, inr (l, p))
+
+pub recording-read : RecordingRead
+recording-read buffer f =
+    let (es, n, r, h) = found (length buffer) f (length f) [] none (omega arith) in
+    (es, n, r, h, recording-only buffer f es n r h)
+
+-- the number with which reading ends
+module _ (space : ℕ) (f : List ℕ) (es : List Entry) (n : ℕ) where
+  range : FirstNo (nextQuestions space f es) n → (5 ≤ n) × (n ≤ 14)
+  range p = no-range (λ k. k) 0 4 14 (nextQuestions space f es) (next-up space f es) n p
+
+  ends-range : Ends space f es n → (n ≡ 0) ⊎ ((5 ≤ n) × (n ≤ 14))
+  ends-range (inl h) = inl (h .1)
+  ends-range (inr h) = inr (range (h .1))
+
+  ends-whole : Ends space f es n → n ≡ 0 → secondsOf es ≡ length f
+  ends-whole (inl h) z = h .0
+  ends-whole (inr h) z = absurd (omega (arith, range (h .1) .0))
+
+  ends-early : Ends space f es n → 0 < n → (secondsOf es < length f) × FirstNo (nextQuestions space f es) n
+  ends-early (inl h) l = absurd (omega arith)
+  ends-early (inr h) l = h
+
+refusal-only : (buffer f : List ℕ) (es : List Entry) (n : ℕ) → Read (length buffer) f es → Ends (length buffer) f es n → readInto buffer f .refusal ≡ n
+refusal-only buffer f es n r h = ap (λ (o : Outcome). o .refusal) (recording-only buffer f es n r h)
+
+pub recording-answers : RecordingAnswers
+recording-answers buffer f =
+    let (es, n, r, h, q) = recording-read buffer f in
+    rw (refusal-only buffer f es n r h) (ends-range (length buffer) f es n h)
+
+pub recording-accepted : RecordingAccepted
+recording-accepted buffer f =
+    let (es, n, r, h, q) = recording-read buffer f in (
+      λ z. (es, r, ends-whole (length buffer) f es n h (sym (refusal-only buffer f es n r h) ∙ z)),
+      λ g. refusal-only buffer f (g .0) 0 (g .1) (inl (g .2, refl)),
+    )
+
+pub recording-refused : RecordingRefused
+recording-refused buffer f n l =
+    let (es, m, r, h, q) = recording-read buffer f in (
+      λ z.
+          let g : Ends (length buffer) f es n = rw (sym (refusal-only buffer f es m r h) ∙ z) at h in
+          let p = ends-early (length buffer) f es n g l in
+          (es, r, p .0, p .1),
+      λ g. refusal-only buffer f (g .0) n (g .1) (inr (g .2, g .3)),
+    )
+
+-- ---- the bits used, read alone
+
+-- what is found, with 0 for its refusal
+unfoldable whole : Found → Found
+whole r = record { entries = r .entries; used = r .used; refusal = 0 }
+
+-- where nothing is found, no bits are used
+cut-stop : (n : ℕ) (due : Due) (f : List ℕ) (k : ℕ) (r : Found) → r ≡ stop k → readFrames n due (take (r .used) f) ≡ whole r
+unfolding stop whole
+cut-stop n due f k r h = rw h (ended n due)
+
+cut-add : (n : ℕ) (due : Due) (f : List ℕ) (d : Entry) (r : Found) → readFrame false f ≡ entry d → follows due (d .minute) ≡ true
+    → readFrames n (after d) (take (r .used) (drop (d .seconds) f)) ≡ whole r
+    → readFrames (suc n) due (take (add d r .used) f) ≡ whole (add d r)
+unfolding add whole
+cut-add n due f d r h m ih =
+    let a = accepted false f d h in
+    let c : length (take (d .seconds) f) ≡ d .seconds = length-take-le (d .seconds) f (a .enough-left) in
+    let g = take (d .seconds + r .used) f in
+    let t : drop (d .seconds) g ≡ take (r .used) (drop (d .seconds) f) =
+    ap (drop (d .seconds)) (take-add (d .seconds) (r .used) f) ∙ drop-at (take (d .seconds) f) (take (r .used) (drop (d .seconds) f)) (d .seconds) c in
+    frame-read n due g (omega (arith, length-take (d .seconds + r .used) f, a .enough-left, a .long)) d (cut-answer f d (d .seconds + r .used) h (omega arith)) m
+    ∙ rw t (rw ih)
+
+-- the bits that a reading uses
+abbrev Cut : ℕ → Due → List ℕ → Type 0
+Cut n due f = readFrames n due (take (readFrames n due f .used) f) ≡ whole (readFrames n due f)
+
+cut-frame : (n : ℕ) (due : Due) (f : List ℕ) → 0 < length f → (a : Answer) → readFrame false f ≡ a
+    → ((d : Due) (g : List ℕ) → Cut n d g) → Cut (suc n) due f
+cut-frame n due f some (refused k) h ih = cut-stop (suc n) due f k (readFrames (suc n) due f) (frame-refused n due f some k h)
+cut-frame n due f some (entry d) h ih = go (follows due (d .minute)) refl
+  where
+    go : (t : Bool) → follows due (d .minute) ≡ t → Cut (suc n) due f
+    go false q = cut-stop (suc n) due f 14 (readFrames (suc n) due f) (out-of-order n due f some d h q)
+    go true q =
+        rw (frame-read n due f some d h q)
+        (cut-add n due f d (readFrames n (after d) (drop (d .seconds) f)) h q (ih (after d) (drop (d .seconds) f)))
+
+cut : (n : ℕ) (due : Due) (f : List ℕ) → Cut n due f
+cut zero due [] = cut-stop zero due [] 0 (readFrames zero due []) (ended zero due)
+cut zero due (b ∷ f) = cut-stop zero due (b ∷ f) 5 (readFrames zero due (b ∷ f)) (no-space due (b ∷ f) (omega arith))
+cut (suc n) due [] = cut-stop (suc n) due [] 0 (readFrames (suc n) due []) (ended (suc n) due)
+cut (suc n) due (b ∷ f) = cut-frame n due (b ∷ f) (omega arith) (readFrame false (b ∷ f)) refl (cut n)
+
+pub recording-kept : RecordingKept
+unfolding readInto readRecording outcome whole
+recording-kept buffer f = rw (cut (length buffer / 12) start f)
