@@ -40,6 +40,14 @@ unfoldable pub ascending : ℕ → ℕ → List Question → Bool
 ascending b c [] = true
 ascending b c (q ∷ qs) = ltb b (q .0) && (leb (q .0) c && ascending (q .0) c qs)
 
+up-cons : (b c : ℕ) (q : Question) (qs : List Question) → ascending b c (q ∷ qs) ≡ true
+    → (b < q .0) × (q .0 ≤ c) × (ascending (q .0) c qs ≡ true)
+unfolding ascending
+up-cons b c q qs h =
+    let r = leb (q .0) c && ascending (q .0) c qs in
+    let t = tail-true (ltb b (q .0)) r h in
+    (ltb-true b (q .0) (head-true (ltb b (q .0)) r h), leb-true (q .0) c (head-true (leb (q .0) c) (ascending (q .0) c qs) t), tail-true (leb (q .0) c) (ascending (q .0) c qs) t)
+
 never : _≡_ {A = Bool} true false → ⊥
 never h = let z : _≡_ {A = ℕ} 0 1 = cc in omega arith
 
@@ -67,15 +75,9 @@ module _ (k : ℕ) (t : Bool) (qs : List Question) where
 -- numbers up to b are not in the list
 answer-low : (b c : ℕ) (qs : List Question) → ascending b c qs ≡ true → (n : ℕ) → n ≤ b → answer qs n ≡ true
 answer-low b c [] h n l = unfold answer in refl
-answer-low b c (q ∷ qs) h n l = go (unfold ascending in h) (answer-low (q .0) c qs)
-  where
-    go : (ltb b (q .0) && (leb (q .0) c && ascending (q .0) c qs)) ≡ true
-        → (ascending (q .0) c qs ≡ true → (n : ℕ) → n ≤ q .0 → answer qs n ≡ true)
-        → answer (q ∷ qs) n ≡ true
-    go h r =
-        let g = ltb-true b (q .0) (head-true (ltb b (q .0)) (leb (q .0) c && ascending (q .0) c qs) h) in
-        let s = tail-true (leb (q .0) c) (ascending (q .0) c qs) (tail-true (ltb b (q .0)) (leb (q .0) c && ascending (q .0) c qs) h) in
-        answer-tail (q .0) (q .1) qs n (λ e. omega arith) ∙ r s n (omega arith)
+answer-low b c (q ∷ qs) h n l =
+    let u = up-cons b c q qs h in
+    answer-tail (q .0) (q .1) qs n (λ e. omega arith) ∙ answer-low (q .0) c qs (u .2) n (omega arith)
 
 -- a question more, answered yes
 pick-true : (t r : Bool) → r ≡ true → pick t true r ≡ true
@@ -102,19 +104,9 @@ module _ {A : Type 0} (refusal : ℕ → A) (a : A) where
 
   pub verdict : (b c : ℕ) (qs : List Question) → ascending b c qs ≡ true → Verdict refusal a b c qs
   verdict b c [] h = all-yes (λ n. unfold answer in refl) (unfold chain in refl)
-  verdict b c (q ∷ qs) h = go (unfold ascending in h) (verdict (q .0) c qs)
-    where
-      go : (ltb b (q .0) && (leb (q .0) c && ascending (q .0) c qs)) ≡ true
-          → (ascending (q .0) c qs ≡ true → Verdict refusal a (q .0) c qs)
-          → Verdict refusal a b c (q ∷ qs)
-      go h r =
-          let t = tail-true (ltb b (q .0)) (leb (q .0) c && ascending (q .0) c qs) h in
-          let s = tail-true (leb (q .0) c) (ascending (q .0) c qs) t in
-          more b c (q .0) (q .1) qs
-          (ltb-true b (q .0) (head-true (ltb b (q .0)) (leb (q .0) c && ascending (q .0) c qs) h))
-          (leb-true (q .0) c (head-true (leb (q .0) c) (ascending (q .0) c qs) t))
-          (answer-low (q .0) c qs s)
-          (r s)
+  verdict b c (q ∷ qs) h =
+      let u = up-cons b c q qs h in
+      more b c (q .0) (q .1) qs (u .0) (u .1) (answer-low (q .0) c qs (u .2)) (verdict (q .0) c qs (u .2))
 
   -- what the questions of a list decide
   module _ (b c : ℕ) (qs : List Question) (up : ascending b c qs ≡ true) where

@@ -1,19 +1,19 @@
 -- A frame is refused by the first of its questions that gets a no.
 -- Assumes nothing.
-use Prim.Native.Nat.{ℕ, _-_, _/_, _%_, _≤_, _<_}
-use mathlib.Core.Bool.{Bool, true, false, _&&_, _||_}
-use mathlib.Core.List.{List, [], _∷_, _++_}
-use mathlib.Core.Logic.{_⊎_, inl, inr, _↔_}
-use mathlib.Core.Path.{_≡_, refl, sym, ap, _∙_}
+use Prim.Native.Nat.{ℕ, _%_, _≤_, _<_}
+use mathlib.Core.Bool.{Bool, true, false}
+use mathlib.Core.List.{List, _++_}
+use mathlib.Core.Logic.{_⊎_, inl, inr}
+use mathlib.Core.Path.{_≡_, refl, _∙_}
 use native.Mathlib.Omega.{arith}
-use lib.Dec.{leb, ltb, eqb, leb·suc-suc}
-use lib.ListN.{length, take, drop, getD}
+use lib.Dec.{leb, eqb, leb·suc-suc}
+use lib.ListN.{drop}
 use Rattle.bits.specs.Bits.{pick, number}
 use Rattle.codewords.specs.CodeWords.{rowOf}
 use Rattle.frame.specs.Frame.{nextIn}
 use Rattle.frame.specs.Entry.{Entry, entryBytes}
-use Rattle.frame.specs.Reading.{Answer, refused, entry, ask, enough, secondsFor, entryOf, askFields, readFrame, OneOutcome, oneOutcome, readOne}
-use Rattle.frame.specs.Refusals.{Question, answer, AllYes, FirstNo, stateRead, chosen, frameQuestions, oneQuestions, FrameAccepted, FrameRefused, FrameAnswers, OneAccepted, OneRefused, OneAnswers, OneBuffer}
+use Rattle.frame.specs.Reading.{Answer, refused, entry, ask, enough, entryOf, askFields, readFrame, OneOutcome, oneOutcome, readOne}
+use Rattle.frame.specs.Refusals.{stateRead, chosen, frameQuestions, oneQuestions, FrameAccepted, FrameRefused, FrameAnswers, OneAccepted, OneRefused, OneAnswers, OneBuffer}
 use Rattle.frame.proofs.Chain.{chain, chain-map, ascending, Verdict, verdict, all-yes, first-no, accepted-when, refused-when, refusalOf, zero-when, number-when, number-range}
 
 ask-is : (n : ℕ) (t : Bool) (a : Answer) → ask n t a ≡ pick t a (refused n)

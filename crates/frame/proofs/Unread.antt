@@ -1,16 +1,16 @@
 -- Bits 29 and 39 of a frame are not read, and nothing behind the frame is.
 -- Assumes nothing.
-use Prim.Native.Nat.{ℕ, zero, suc, _+_, _-_, _≤_, _<_}
+use Prim.Native.Nat.{ℕ, zero, suc, _+_, _-_, _≤_}
 use mathlib.Core.Bool.{Bool, true, false}
 use mathlib.Core.List.{List, [], _∷_, _++_}
 use mathlib.Core.Path.{_≡_, refl, sym, ap, subst, _∙_}
 use native.Mathlib.Decide.{decLe}
 use native.Mathlib.Omega.{arith}
 use lib.Dec.{leb}
-use lib.ListN.{length, take, drop, getD, set, length-set, length-take}
+use lib.ListN.{length, take, drop, getD, length-set, length-take}
 use lib.Seq.{getD-take, take-take}
 use borrow.Author.Tests.{le-leb}
-use Rattle.bits.specs.Bits.{isBit, all, number}
+use Rattle.bits.specs.Bits.{isBit, all}
 use Rattle.bits.proofs.Parts.{part-take}
 use Rattle.frame.specs.Frame.{wordIn, stateIn, nextIn}
 use Rattle.frame.specs.Inverting.{withUnread}

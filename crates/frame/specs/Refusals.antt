@@ -14,7 +14,7 @@ use Rattle.timeword.specs.declared.Corrected.{Corrected}
 use Rattle.codewords.specs.CodeWords.{stateOf, rowOf}
 use Rattle.frame.specs.Frame.{wordIn, stateIn, nextIn}
 use Rattle.frame.specs.Entry.{entryBytes}
-use Rattle.frame.specs.Reading.{Answer, refused, entry, secondsFor, entryOf, readFrame, readOne}
+use Rattle.frame.specs.Reading.{refused, entry, secondsFor, entryOf, readFrame, readOne}
 
 -- ---- lists of questions
 

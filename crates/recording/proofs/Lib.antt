@@ -9,3 +9,4 @@ pub mod RoundTrip
 pub mod Demand
 pub mod Unread
 pub mod ReadRefusals
+pub mod Kept

@@ -1,23 +1,22 @@
 -- Bits 29 and 39 of all frames of a recording are not read, whatever the recording holds.
 -- Assumes nothing.
-use Prim.Native.Nat.{ℕ, zero, suc, _+_, _-_, _/_, _≤_, _<_}
-use mathlib.Core.Bool.{Bool, true, false}
+use Prim.Native.Nat.{ℕ, zero, suc, _/_, _≤_}
+use mathlib.Core.Bool.{true, false}
 use mathlib.Core.List.{List, [], _∷_, _++_, append-nil}
 use mathlib.Core.Path.{_≡_, refl, sym, ap, subst, _∙_}
 use native.Mathlib.Nat.{le-refl}
 use native.Mathlib.Decide.{decLe}
 use native.Mathlib.Omega.{arith}
-use lib.ListN.{length, take, drop, getD, set, length-set, length-append, length-drop, length-take}
-use lib.Seq.{length-take-le, take-at, drop-at, take-all, take-take}
-use borrow.Author.Tests.{leb-true}
-use Rattle.bits.specs.Bits.{pick, isBit}
+use lib.ListN.{length, take, drop, getD, length-append, length-drop, length-take}
+use lib.Seq.{length-take-le, take-at, drop-at, take-take}
+use Rattle.bits.specs.Bits.{isBit}
 use Rattle.frame.specs.Inverting.{withUnread}
 use Rattle.frame.specs.Entry.{Entry}
 use Rattle.frame.specs.Reading.{Answer, refused, entry, entryOf, readFrame}
 use Rattle.frame.proofs.Accepted.{accepted}
 use Rattle.frame.proofs.Questions.{no-6}
 use Rattle.frame.proofs.Unread.{length-unread, read-unread, one-unread, entry-unread, same-answer, Shape, read-shape}
-use Rattle.recording.specs.Reading.{Found, stop, add, start, after, follows, onward, readFrames, readRecording, outcome, readInto}
+use Rattle.recording.specs.Reading.{Found, stop, start, after, onward, readFrames, readRecording, outcome, readInto}
 use Rattle.recording.specs.Unread.{withUnreadEach, UnreadAreBits, UnreadBitsChangeNothing, UnreadBitsOfOneFrame}
 use Rattle.recording.specs.declared.Due.{Due}
 use Rattle.recording.proofs.Steps.{ended, no-space, step}

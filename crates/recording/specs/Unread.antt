@@ -1,7 +1,7 @@
 -- Bits 29 and 39 of all frames of a recording together (document 01, "Frame": sent 0, not read).
 -- Assumes nothing.
 use Prim.Native.Nat.{ℕ, zero, suc}
-use mathlib.Core.Bool.{Bool, true}
+use mathlib.Core.Bool.{true}
 use mathlib.Core.List.{List, _++_}
 use mathlib.Core.Path.{_≡_}
 use lib.ListN.{take, drop, getD}
