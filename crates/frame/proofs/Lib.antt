@@ -7,3 +7,5 @@ pub mod Inverting
 pub mod RoundTrip
 pub mod Unread
 pub mod One
+pub mod Chain
+pub mod Refusals

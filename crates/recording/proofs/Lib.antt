@@ -8,3 +8,5 @@ pub mod Seconds
 pub mod RoundTrip
 pub mod Demand
 pub mod Unread
+pub mod ReadRefusals
+pub mod Kept

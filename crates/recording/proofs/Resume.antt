@@ -1,7 +1,7 @@
 -- What is left of a reading, added to what it has done so far.
 -- Assumes nothing.
 use Prim.Native.Nat.{ℕ, suc, _+_, _*_, _≤_}
-use mathlib.Core.List.{List, _++_, map, append-assoc}
+use mathlib.Core.List.{List, [], _∷_, _++_, map, append-assoc}
 use mathlib.Core.Path.{_≡_, refl, sym, ap, _∙_}
 use native.Mathlib.Nat.{add-zero, zero-add}
 use native.Mathlib.Omega.{arith}
@@ -10,6 +10,12 @@ use lib.Seq.{length-take-le, take-at, drop-at, drop-drop}
 use Rattle.bits.specs.Bits.{concat}
 use Rattle.frame.specs.Entry.{Entry, entryBytes}
 use Rattle.recording.specs.Reading.{Found, stop, add, bytesOf, Outcome, outcome}
+
+-- 12 bytes for each entry
+pub length-bytes : (es : List Entry) → length (bytesOf es) ≡ 12 * length es
+unfolding bytesOf concat entryBytes
+length-bytes [] = refl
+length-bytes (e ∷ es) = omega (arith, length-bytes es)
 
 -- the outcome, where count entries of used bits stand in the buffer and the rest finds r
 unfoldable pub resume : ℕ → ℕ → List ℕ → Found → Outcome

@@ -1,16 +1,15 @@
 -- Reading a recording frame by frame.
 -- Assumes nothing.
-use Prim.Native.Nat.{ℕ, zero, suc, _+_, _≤_, _<_}
+use Prim.Native.Nat.{ℕ, zero, suc, _<_}
 use mathlib.Core.Bool.{true, false}
-use mathlib.Core.List.{List, [], _∷_, _++_}
+use mathlib.Core.List.{List, [], _∷_}
 use mathlib.Core.Path.{_≡_, refl, _∙_}
 use native.Mathlib.Omega.{arith}
 use lib.ListN.{length, drop}
-use Rattle.frame.specs.Entry.{Entry, entryBytes}
+use Rattle.frame.specs.Entry.{Entry}
 use Rattle.frame.specs.Reading.{refused, entry, readFrame}
-use Rattle.recording.specs.Reading.{stop, add, follows, onward, readFrames}
+use Rattle.recording.specs.Reading.{stop, add, after, follows, onward, readFrames}
 use Rattle.recording.specs.declared.Due.{Due}
-use Rattle.recording.specs.declared.Due.the-variants.{Minute}
 
 -- with no bits left reading ends
 pub ended : (n : ℕ) (due : Due) → readFrames n due [] ≡ stop 0
@@ -40,6 +39,6 @@ module _ (n : ℕ) (due : Due) (f : List ℕ) (h : 0 < length f) where
   out-of-order e r d = step n due f h ∙ rw (r, d)
 
   pub frame-read : (e : Entry) → readFrame false f ≡ entry e → follows due (e .minute) ≡ true
-      → readFrames (suc n) due f ≡ add e (readFrames n (Minute (e .minute + 1)) (drop (e .seconds) f))
+      → readFrames (suc n) due f ≡ add e (readFrames n (after e) (drop (e .seconds) f))
   unfolding onward
   frame-read e r d = step n due f h ∙ rw (r, d)

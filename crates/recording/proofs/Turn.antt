@@ -9,9 +9,8 @@ use lib.ListN.{length, take, drop, length-append, length-drop}
 use lib.Seq.{length-take-le, drop-drop}
 use Rattle.frame.specs.Entry.{Entry, entryBytes}
 use Rattle.frame.specs.Reading.{entry, readFrame}
-use Rattle.recording.specs.Reading.{follows, readFrames, Outcome}
+use Rattle.recording.specs.Reading.{after, follows, readFrames, Outcome}
 use Rattle.recording.specs.declared.Due.{Due}
-use Rattle.recording.specs.declared.Due.the-variants.{Minute}
 use Rattle.recording.proofs.Resume.{resume, resume-add}
 use Rattle.recording.proofs.Steps.{frame-read}
 use Rattle.recording.proofs.Tails.{tail, tail-back}
@@ -43,10 +42,10 @@ pub turn : (fewer count used : ℕ) (due : Due) (bits buffer ys : List ℕ) (e :
     → count * 12 + 12 ≤ length buffer → ys ≡ entryBytes e ++ drop 12 (take (length buffer - count * 12) (drop (count * 12) buffer))
     → resume count used buffer (readFrames (suc fewer) due (drop used bits)) ≡ o
     → resume (count + 1) (used + e .seconds) (take (count * 12) buffer ++ (ys ++ drop (length buffer - count * 12) (drop (count * 12) buffer)))
-    (readFrames fewer (Minute (e .minute + 1)) (drop (used + e .seconds) bits))
+    (readFrames fewer (after e) (drop (used + e .seconds) bits))
     ≡ o
 turn fewer count used due bits buffer ys e o some r d room h inv =
     rw (put-back buffer ys (count * 12) e room h, ← drop-drop (e .seconds) used bits)
-    (sym (resume-add count used buffer e (readFrames fewer (Minute (e .minute + 1)) (drop (e .seconds) (drop used bits))) room)
+    (sym (resume-add count used buffer e (readFrames fewer (after e) (drop (e .seconds) (drop used bits))) room)
     ∙ ap (resume count used buffer) (sym (frame-read fewer due (drop used bits) some e r d))
     ∙ inv)

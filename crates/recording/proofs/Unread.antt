@@ -1,31 +1,25 @@
 -- Bits 29 and 39 of all frames of a recording are not read, whatever the recording holds.
 -- Assumes nothing.
-use Prim.Native.Nat.{ℕ, zero, suc, _+_, _-_, _≤_, _<_}
-use mathlib.Core.Bool.{Bool, true, false}
+use Prim.Native.Nat.{ℕ, zero, suc, _/_, _≤_}
+use mathlib.Core.Bool.{true, false}
 use mathlib.Core.List.{List, [], _∷_, _++_, append-nil}
 use mathlib.Core.Path.{_≡_, refl, sym, ap, subst, _∙_}
 use native.Mathlib.Nat.{le-refl}
 use native.Mathlib.Decide.{decLe}
 use native.Mathlib.Omega.{arith}
-use lib.ListN.{length, take, drop, getD, set, length-set, length-append, length-drop, length-take}
-use lib.Seq.{length-take-le, take-at, drop-at, take-all, take-take}
-use borrow.Author.Tests.{leb-true}
-use Rattle.bits.specs.Bits.{pick, isBit}
+use lib.ListN.{length, take, drop, getD, length-append, length-drop, length-take}
+use lib.Seq.{length-take-le, take-at, drop-at, take-take}
+use Rattle.bits.specs.Bits.{isBit}
 use Rattle.frame.specs.Inverting.{withUnread}
 use Rattle.frame.specs.Entry.{Entry}
 use Rattle.frame.specs.Reading.{Answer, refused, entry, entryOf, readFrame}
 use Rattle.frame.proofs.Accepted.{accepted}
 use Rattle.frame.proofs.Questions.{no-6}
-use Rattle.frame.proofs.Unread.{seconds-59, read-unread, entry-unread, same-answer, Shape, read-shape}
-use Rattle.recording.specs.Reading.{Found, stop, add, follows, onward, readFrames}
-use Rattle.recording.specs.Unread.{withUnreadEach, UnreadAreBits, UnreadBitsChangeNothing}
+use Rattle.frame.proofs.Unread.{length-unread, read-unread, one-unread, entry-unread, same-answer, Shape, read-shape}
+use Rattle.recording.specs.Reading.{Found, stop, start, after, onward, readFrames, readRecording, outcome, readInto}
+use Rattle.recording.specs.Unread.{withUnreadEach, UnreadAreBits, UnreadBitsChangeNothing, UnreadBitsOfOneFrame}
 use Rattle.recording.specs.declared.Due.{Due}
-use Rattle.recording.specs.declared.Due.the-variants.{Minute}
-use Rattle.recording.proofs.Steps.{ended, step}
-
-length-unread : (x y : ℕ) (f : List ℕ) → length (withUnread x y f) ≡ length f
-unfolding withUnread
-length-unread x y f = simp length-set
+use Rattle.recording.proofs.Steps.{ended, no-space, step}
 
 nil-of : (l : List ℕ) → length l ≡ 0 → l ≡ []
 nil-of [] h = refl
@@ -37,7 +31,7 @@ no-bits n due (b ∷ f) h = absurd (omega arith)
 
 -- what comes behind an answer, from two lists
 onward-same : (due : Due) (f g : List ℕ) (a : Answer) (next : Due → List ℕ → Found)
-    → ((e : Entry) → a ≡ entry e → next (Minute (e .minute + 1)) (drop (e .seconds) g) ≡ next (Minute (e .minute + 1)) (drop (e .seconds) f))
+    → ((e : Entry) → a ≡ entry e → next (after e) (drop (e .seconds) g) ≡ next (after e) (drop (e .seconds) f))
     → onward due g a next ≡ onward due f a next
 unfolding onward
 onward-same due f g (refused r) next h = refl
@@ -87,11 +81,9 @@ module _ (x y : ℕ → ℕ) (hx : (j : ℕ) → isBit (x j) ≡ true) (hy : (j 
         | yes g ↦
             let r = withUnread (x j) (y j) f in
             let e : entryOf r ≡ entryOf f = entry-unread (x j) (y j) (hx j) (hy j) f g in
-            same-answer r (withUnreadEach x y j (suc n) f)
-            (rw e (sym (first-take n j f)))
-            (length-unread (x j) (y j) f ∙ sym (length-each (suc n) j f))
-            false
-            ∙ read-unread (x j) (y j) (hx j) (hy j) false f g h29 h39
+            let l : length r ≡ length (withUnreadEach x y j (suc n) f) = length-unread (x j) (y j) f ∙ sym (length-each (suc n) j f) in
+            same-answer r (withUnreadEach x y j (suc n) f) (rw e (sym (first-take n j f))) false (rw l) (rw l)
+            ∙ read-unread (x j) (y j) (hx j) (hy j) false f h29 h39
       ]
 
   -- the bits behind an accepted first frame
@@ -102,22 +94,30 @@ module _ (x y : ℕ → ℕ) (hx : (j : ℕ) → isBit (x j) ≡ true) (hy : (j 
       let r = withUnread (x j) (y j) f in
       ap (drop s) (each-is n j f) ∙ drop-at (take s r) (withUnreadEach x y (suc j) n (drop s f)) s (length-take-le s r (rw (length-unread (x j) (y j) f) h))
 
-  pub unread-each : (n j : ℕ) (due : Due) (f : List ℕ) → UnreadAreBits n f → readFrames n due (withUnreadEach x y j n f) ≡ readFrames n due f
-  unread-each zero j due f b = unfold withUnreadEach in refl
-  unread-each (suc n) j due f b =
+  unread-each : (m n j : ℕ) (due : Due) (f : List ℕ) → UnreadAreBits n f → readFrames m due (withUnreadEach x y j n f) ≡ readFrames m due f
+  unread-each m zero j due f b = unfold withUnreadEach in refl
+  unread-each zero (suc n) j due f b =
       elim (decLe 1 (length f)) [
-        | no g ↦ no-bits (suc n) due (withUnreadEach x y j (suc n) f) (rw (length-each (suc n) j f) (omega arith)) ∙ sym (no-bits (suc n) due f (omega arith))
+        | no g ↦ no-bits 0 due (withUnreadEach x y j (suc n) f) (rw (length-each (suc n) j f) (omega arith)) ∙ sym (no-bits 0 due f (omega arith))
+        | yes g ↦ no-space due (withUnreadEach x y j (suc n) f) (rw (length-each (suc n) j f) g) ∙ sym (no-space due f g)
+      ]
+  unread-each (suc m) (suc n) j due f b =
+      elim (decLe 1 (length f)) [
+        | no g ↦ no-bits (suc m) due (withUnreadEach x y j (suc n) f) (rw (length-each (suc n) j f) (omega arith)) ∙ sym (no-bits (suc m) due f (omega arith))
         | yes g ↦
-            step n due (withUnreadEach x y j (suc n) f) (rw (length-each (suc n) j f) g)
-            ∙ ap (λ (a : Answer). onward due (withUnreadEach x y j (suc n) f) a (readFrames n)) (first-answer n j f (b .0) (b .1))
-            ∙ onward-same due f (withUnreadEach x y j (suc n) f) (readFrame false f) (readFrames n)
+            step m due (withUnreadEach x y j (suc n) f) (rw (length-each (suc n) j f) g)
+            ∙ ap (λ (a : Answer). onward due (withUnreadEach x y j (suc n) f) a (readFrames m)) (first-answer n j f (b .0) (b .1))
+            ∙ onward-same due f (withUnreadEach x y j (suc n) f) (readFrame false f) (readFrames m)
             (λ e q.
             let is : e ≡ entryOf f = subst (Shape (entryOf f)) q (read-shape false f) in
-            let h : e .seconds ≤ length f = accepted false f e q .enough-left in
-            let l : entryOf f .seconds ≤ length f = subst (λ (d : Entry). d .seconds ≤ length f) is h in
-            rw is (ap (readFrames n (Minute (entryOf f .minute + 1))) (rest-is n j f l) ∙ unread-each n (suc j) (Minute (entryOf f .minute + 1)) (drop (entryOf f .seconds) f) (b .2)))
-            ∙ sym (step n due f g)
+            let l : entryOf f .seconds ≤ length f = subst (λ (d : Entry). d .seconds ≤ length f) is (accepted false f e q .enough-left) in
+            rw is (ap (readFrames m (after (entryOf f))) (rest-is n j f l) ∙ unread-each m n (suc j) (after (entryOf f)) (drop (entryOf f .seconds) f) (b .2)))
+            ∙ sym (step m due f g)
       ]
 
 pub unread : UnreadBitsChangeNothing
-unread x y hx hy n j due f b = unread-each x y hx hy n j due f b
+unfolding readInto readRecording
+unread x y hx hy n buffer f b = ap (outcome buffer) (unread-each x y hx hy (length buffer / 12) n 0 start f b)
+
+pub unread-one : UnreadBitsOfOneFrame
+unread-one x y hx hy buffer f h29 h39 = one-unread x y hx hy buffer f h29 h39

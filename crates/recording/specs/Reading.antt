@@ -1,4 +1,4 @@
--- Reading a recording (document 01, "Recordings and entries" and "Questions in order").
+-- Reading a recording, frame after frame (document 01, "Recordings and entries"), by questions 5 to 14 ("Questions in order").
 -- Assumes nothing.
 use Prim.Native.Nat.{ℕ, zero, suc, _+_, _/_}
 use mathlib.Core.Bool.{Bool, true, false}
@@ -13,46 +13,57 @@ use Rattle.recording.specs.declared.Due.{Due}
 use Rattle.recording.specs.declared.Due.the-variants.{Any, Minute}
 use Rattle.recording.specs.declared.Summary.{Summary}
 
--- what reading a recording finds
+-- what reading a recording finds ("Recordings and entries"): the entries, the bits used by them, and the refusal or 0
 pub record Found : Type 0 where
   pub entries : List Entry
   pub used : ℕ
   pub refusal : ℕ
 
+-- no entry more, and the refusal or 0
 unfoldable pub stop : ℕ → Found
 stop r = record { entries = []; used = 0; refusal = r }
 
+-- an entry, before what is found behind its bits
 unfoldable pub add : Entry → Found → Found
 add e r = record { entries = e ∷ r .entries; used = e .seconds + r .used; refusal = r .refusal }
 
--- question 14: the minute is the one due
+-- what the reader carries from frame to frame: the minute that is due. Before the first frame any minute is.
+abbrev pub start : Due
+start = Any
+
+-- behind a frame, one more than its minute
+abbrev pub after : Entry → Due
+after e = Minute (e .minute + 1)
+
+-- after the first frame, is the minute one more than before (14)?
 unfoldable pub follows : Due → ℕ → Bool
 follows Any m = true
 follows (Minute n) m = eqb m n
 
--- one frame's answer, and what comes behind it
+-- behind one frame's answer: its refusal, or question 14, and what is found behind the frame's last bit
 unfoldable pub onward : Due → List ℕ → Answer → (Due → List ℕ → Found) → Found
 onward due f (refused r) next = stop r
 onward due f (entry e) next =
-    let r = add e (next (Minute (e .minute + 1)) (drop (e .seconds) f)) in
+    let r = add e (next (after e) (drop (e .seconds) f)) in
     pick (follows due (e .minute)) r (stop 14)
 
--- reading with space for n entries, the minute due
+-- reading with space for n entries: with no bits left it ends with 0, and no question is put.
+-- Are 12 entry bytes free (5)? Then the frame's questions, 6 to 13.
 unfoldable pub readFrames : ℕ → Due → List ℕ → Found
 readFrames zero due [] = stop 0
 readFrames zero due (b ∷ f) = stop 5
 readFrames (suc n) due [] = stop 0
 readFrames (suc n) due (b ∷ f) = onward due (b ∷ f) (readFrame false (b ∷ f)) (readFrames n)
 
--- reading a recording with so many entry bytes
+-- reading a recording with so many entry bytes, 12 for each entry
 unfoldable pub readRecording : ℕ → List ℕ → Found
-readRecording space f = readFrames (space / entrySize) Any f
+readRecording space f = readFrames (space / entrySize) start f
 
 -- the bytes of the entries
 unfoldable pub bytesOf : List Entry → List ℕ
 bytesOf es = concat (map entryBytes es)
 
--- what the call gives back, with the entry buffer as it leaves it
+-- what the call gives: number of entries, bits used, the refusal or 0, and the entry buffer after it
 pub record Outcome : Type 0 where
   pub count : ℕ
   pub used : ℕ
@@ -73,6 +84,6 @@ outcome buffer r =
 unfoldable pub readInto : List ℕ → List ℕ → Outcome
 readInto buffer f = outcome buffer (readRecording (length buffer) f)
 
--- the numbers of the answer
+-- the numbers of the code's answer
 abbrev pub summaryOutcome : Summary → List ℕ → Outcome
 summaryOutcome s buffer = record { count = s .entries; used = s .used; refusal = endNumber (s .end); buffer = buffer }
