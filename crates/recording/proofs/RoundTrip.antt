@@ -32,7 +32,7 @@ use Rattle.recording.proofs.Sums.{length-recording}
 use Rattle.recording.proofs.Tails.{length-rest}
 
 -- what reading a recording as sent finds
-sentFound : Plan → ℕ → List ℕ → Found
+unfoldable pub sentFound : Plan → ℕ → List ℕ → Found
 sentFound p m is = record { entries = sentEntries p m is; used = seconds p m (length is); refusal = 0 }
 
 length-sent : (p : Plan) (m : ℕ) (is : List ℕ) → length (sentEntries p m is) ≡ length is
@@ -70,7 +70,7 @@ module _ (p : Plan) (legal : legalPlan p ≡ true) where
       ∙ rw (minute, secs, add-one m, drop-at f rest (s .seconds) len)
 
   -- a recording, in space for as many entries or more
-  trip : (is : List ℕ) (m n : ℕ) (due : Due) → all isPlace is ≡ true → m + length is ≤ minuteCount → length is ≤ n → follows due m ≡ true
+  pub trip : (is : List ℕ) (m n : ℕ) (due : Due) → all isPlace is ≡ true → m + length is ≤ minuteCount → length is ≤ n → follows due m ≡ true
       → readFrames n due (concat (invertEach is (frames p m (length is)))) ≡ sentFound p m is
   unfolding concat invertEach frames sentFound sentEntries seconds add stop all
   trip [] m n due l h s d = ended n due

@@ -1,4 +1,6 @@
 pub mod Writing
 pub mod Reading
 pub mod Demand
+pub mod RoundTrip
+pub mod Bench
 pub mod Unread
