@@ -16,7 +16,7 @@ use Rattle.timeword.specs.TimeWord.{codeWord, parities, reading}
 use Rattle.codewords.specs.CodeWords.{stateWords, stateOf, nextWords}
 use Rattle.codewords.proofs.Tables.{state-back, state-word-lt, row-back, row-small, next-word-lt}
 use Rattle.frame.specs.Frame.{Sent, sync, body, bodyOf, frame, wordIn, stateIn, nextIn}
-use Rattle.frame.specs.Inverting.{flip, invertAt, from, framePlaces, inverted}
+use Rattle.frame.specs.Inverting.{flip, invertAt, from, timeNumbers, timeBits, framePlaces, inverted}
 use Rattle.frame.specs.Reading.{entry, enough, entryOf, readFrame}
 use Rattle.frame.specs.Entry.{sentEntry}
 use Rattle.frame.proofs.Legal.{Legal, long}
@@ -28,6 +28,11 @@ use Rattle.frame.proofs.Questions.{yes-9, yes-13}
 pub word-sent : (s : Sent) → wordIn (frame s) ≡ codeWord (s .minute)
 unfolding wordIn frame bodyOf body sync codeWord parities bits
 word-sent s = refl
+
+-- its time-word bits, by their numbers
+pub time-bits-sent : (s : Sent) → timeBits (frame s) ≡ codeWord (s .minute)
+unfolding timeBits timeNumbers from frame bodyOf body sync codeWord parities bits
+time-bits-sent s = refl
 
 zeros-pass : (n : ℕ) (rest : List ℕ) → all isZero (take n (replicate n 0 ++ rest)) ≡ true
 unfolding all isZero

@@ -15,17 +15,19 @@ pub record Entry : Type 0 where
   pub place : ℕ
   pub echo : ℕ
 
--- the bytes of an entry
+-- "An entry has 12 bytes": question 5's bytes for a frame
 abbrev pub entrySize : ℕ
 entrySize = 12
 
--- minute (big-endian), length, daylight state, leap, row, notice, repaired place, echo, 0
+-- minute (4 bytes, big-endian), length, daylight state, leap, row, notice, repaired place, echo, 0
 unfoldable pub entryBytes : Entry → List ℕ
 entryBytes e =
     e .minute / 16777216 % 256 ∷ e .minute / 65536 % 256 ∷ e .minute / 256 % 256 ∷ e .minute % 256
     ∷ e .seconds ∷ e .daylight ∷ e .leap ∷ e .row ∷ e .notice ∷ e .place ∷ e .echo ∷ 0 ∷ []
 
--- a frame's entry as sent, with place i inverted
+-- "A frame's entry as sent is given by plan, minute and inversion, never by the reader": of the s that a plan gives its minute
+-- (sentBy), "the minute; the length, daylight state, leap and row that the plan gives it; the plan's notice; as repaired place
+-- the place inverted in the frame, or 0; echo 1"; the "0 behind it" is that of entryBytes
 unfoldable pub sentEntry : Sent → ℕ → Entry
 sentEntry s i =
     record {

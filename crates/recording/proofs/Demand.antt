@@ -6,28 +6,29 @@ use mathlib.Core.Path.{_≡_, refl, sym, ap, _∙_}
 use native.Mathlib.Nat.{not-suc-le-zero, add-zero, add-suc, suc-add}
 use native.Mathlib.Omega.{arith}
 use lib.ListN.{length, getD}
+use lib.Seq.{ext-getD}
 use borrow.Author.Tests.{leb-true}
 use Rattle.bits.proofs.Tests.{all-at}
 use Rattle.timeword.specs.TimeWord.{codeWord, reading}
 use Rattle.timeword.proofs.Distance.{distance-3}
 use Rattle.plan.specs.declared.Plan.{Plan}
 use Rattle.frame.specs.Frame.{Sent, sentBy, frame, wordIn}
-use Rattle.frame.specs.Inverting.{inverted}
-use Rattle.frame.proofs.RoundTrip.{received-is, word-received, word-sent}
+use Rattle.frame.specs.Inverting.{timeBits, EqualFrames, inverted}
+use Rattle.frame.proofs.RoundTrip.{received-is, word-received, time-bits-sent}
 use Rattle.frame.proofs.Inverting.{read-inverted}
 use Rattle.recording.specs.Writing.{frames}
-use Rattle.recording.specs.Demand.{isPlace, invertEach, Sending, frameAt, invertedAt, Demand3}
-use Rattle.recording.proofs.RoundTrip.{recording-round-trip}
+use Rattle.recording.specs.Demand.{atRank, isPlace, invertEach, Sending, Demand3}
+use Rattle.recording.proofs.RoundTrip.{read-as-sent}
 
 -- the frame at a rank
-frame-at : (p : Plan) (m n k : ℕ) → k < n → frameAt p m n k ≡ frame (sentBy p (m + k))
+frame-at : (p : Plan) (m n k : ℕ) → k < n → atRank k (frames p m n) ≡ frame (sentBy p (m + k))
 unfolding frames
 frame-at p m zero k h = absurd (not-suc-le-zero h)
 frame-at p m (suc n) zero h = rw add-zero
 frame-at p m (suc n) (suc k) h = rw (frame-at p (suc m) n k (omega arith), add-suc, suc-add)
 
 -- the inverted frame at a rank
-inverted-at : (is : List ℕ) (p : Plan) (m k : ℕ) → k < length is → invertedAt p m (length is) is k ≡ inverted (getD is k 0) (frame (sentBy p (m + k)))
+inverted-at : (is : List ℕ) (p : Plan) (m k : ℕ) → k < length is → atRank k (invertEach is (frames p m (length is))) ≡ inverted (getD is k 0) (frame (sentBy p (m + k)))
 unfolding frames invertEach
 inverted-at [] p m k h = absurd (not-suc-le-zero h)
 inverted-at (i ∷ is) p m zero h = rw add-zero
@@ -37,12 +38,12 @@ minute-sent : (p : Plan) (m : ℕ) → sentBy p m .minute ≡ m
 unfolding sentBy
 minute-sent p m = refl
 
--- the time word of the frame at a rank
-word-at : (p : Plan) (m n k : ℕ) → k < n → wordIn (frameAt p m n k) ≡ codeWord (m + k)
-word-at p m n k h = ap wordIn (frame-at p m n k h) ∙ word-sent (sentBy p (m + k)) ∙ ap codeWord (minute-sent p (m + k))
+-- the time-word bits of the frame at a rank
+bits-at : (p : Plan) (m n k : ℕ) → k < n → timeBits (atRank k (frames p m n)) ≡ codeWord (m + k)
+bits-at p m n k h = ap timeBits (frame-at p m n k h) ∙ time-bits-sent (sentBy p (m + k)) ∙ ap codeWord (minute-sent p (m + k))
 
 -- the minute read from the inverted frame at a rank
-read-at : (p : Plan) (m n : ℕ) (is buffer : List ℕ) → Sending p m n is buffer → (k : ℕ) → k < n → reading (wordIn (invertedAt p m n is k ++ [])) .minute ≡ m + k
+read-at : (p : Plan) (m n : ℕ) (is buffer : List ℕ) → Sending p m n is buffer → (k : ℕ) → k < n → reading (wordIn (atRank k (invertEach is (frames p m n)) ++ [])) .minute ≡ m + k
 read-at p m n is buffer s k h =
     let i : ℕ = getD is k 0 in
     let x : Sent = sentBy p (m + k) in
@@ -50,16 +51,20 @@ read-at p m n is buffer s k h =
     let minute : x .minute ≡ m + k = minute-sent p (m + k) in
     rw (← s .one-each, inverted-at is p m k (omega arith), received-is x i [], word-received x i [], read-inverted (x .minute) i (omega arith) place) minute
 
+-- equal frames are one list
+same-list : (f g : List ℕ) → EqualFrames f g → f ≡ g
+same-list f g e = ext-getD 0 f g (e .same-length) (e .same-bits)
+
 pub demand-3 : Demand3
 demand-3 p q a b n is js buffer buffer′ s t ne =
     record {
-      apart = λ k h. rw (word-at p a n k h, word-at q b n k h) (distance-3 (a + k) (b + k) (omega arith) (omega arith) (λ e. ne (omega arith)));
+      apart = λ k h. rw (bits-at p a n k h, bits-at q b n k h) (distance-3 (a + k) (b + k) (omega arith) (omega arith) (λ e. ne (omega arith)));
       unequal = λ k h same.
           ne
           (omega (
             arith,
-            sym (read-at p a n is buffer s k h) ∙ ap (λ (f : List ℕ). reading (wordIn (f ++ [])) .minute) same ∙ read-at q b n js buffer′ t k h,
+            sym (read-at p a n is buffer s k h) ∙ ap (λ (f : List ℕ). reading (wordIn (f ++ [])) .minute) (same-list _ _ same) ∙ read-at q b n js buffer′ t k h,
           ));
-      first-read = recording-round-trip p a n is buffer s;
-      second-read = recording-round-trip q b n js buffer′ t;
+      first-read = read-as-sent p a n is buffer s;
+      second-read = read-as-sent q b n js buffer′ t;
     }

@@ -6,6 +6,8 @@ pub mod Steps
 pub mod Turn
 pub mod Seconds
 pub mod RoundTrip
+pub mod ReadBack
+pub mod Bench
 pub mod Demand
 pub mod Unread
 pub mod ReadRefusals

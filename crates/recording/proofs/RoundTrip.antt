@@ -3,11 +3,12 @@
 use Prim.Native.Nat.{ℕ, zero, suc, _+_, _*_, _/_, _≤_, _<_}
 use mathlib.Core.Bool.{true}
 use mathlib.Core.List.{List, [], _∷_, _++_}
-use mathlib.Core.Path.{_≡_, refl, ap, _∙_}
+use mathlib.Core.Path.{_≡_, refl, sym, ap, ap₂, _∙_}
+use native.Mathlib.Nat.{not-suc-le-zero, add-zero, add-suc, suc-add}
 use native.Mathlib.Numerals.{add-one}
 use native.Mathlib.Omega.{arith}
-use lib.ListN.{length, length-append}
-use lib.Seq.{drop-at}
+use lib.ListN.{length, getD, take, drop, length-append}
+use lib.Seq.{drop-at, drop-drop}
 use borrow.Author.Tests.{eq-eqb, leb-true}
 use Rattle.bits.specs.Bits.{all, concat}
 use Rattle.bits.proofs.Tests.{head-true, tail-true}
@@ -17,18 +18,21 @@ use Rattle.plan.specs.declared.Plan.{Plan}
 use Rattle.frame.specs.Frame.{Sent, sentBy, frame}
 use Rattle.frame.specs.Inverting.{inverted}
 use Rattle.frame.specs.Entry.{Entry, entryBytes, sentEntry}
+use Rattle.frame.proofs.Inverting.{inverts-one-bit}
 use Rattle.frame.proofs.Legal.{Legal, legal-sent, long}
 use Rattle.frame.proofs.RoundTrip.{frame-round-trip, length-inverted}
-use Rattle.recording.specs.Writing.{frames, seconds}
-use Rattle.recording.specs.Reading.{Found, stop, add, follows, readFrames, readRecording, bytesOf, outcome, readInto}
-use Rattle.recording.specs.Demand.{isPlace, invertEach, recorded, sentEntries, sentOutcome, Sending}
+use Rattle.recording.specs.Writing.{frames, recording, seconds}
+use Rattle.recording.specs.Reading.{Found, stop, add, follows, readFrames, readRecording, bytesOf, Outcome, outcome, readInto}
+use Rattle.recording.specs.Demand.{atRank, isPlace, invertEach, recorded, sentEntries, bitsSent, sentOutcome, Sending, AsSent, noPlaces, NothingInverted, LengthsKept}
 use Rattle.recording.specs.declared.Due.{Due}
 use Rattle.recording.specs.declared.Due.the-variants.{Any, Minute}
 use Rattle.recording.proofs.Steps.{ended, frame-read}
 use Rattle.recording.proofs.Seconds.{seconds-sent}
+use Rattle.recording.proofs.Sums.{length-recording}
+use Rattle.recording.proofs.Tails.{length-rest}
 
 -- what reading a recording as sent finds
-sentFound : Plan → ℕ → List ℕ → Found
+unfoldable pub sentFound : Plan → ℕ → List ℕ → Found
 sentFound p m is = record { entries = sentEntries p m is; used = seconds p m (length is); refusal = 0 }
 
 length-sent : (p : Plan) (m : ℕ) (is : List ℕ) → length (sentEntries p m is) ≡ length is
@@ -66,7 +70,7 @@ module _ (p : Plan) (legal : legalPlan p ≡ true) where
       ∙ rw (minute, secs, add-one m, drop-at f rest (s .seconds) len)
 
   -- a recording, in space for as many entries or more
-  trip : (is : List ℕ) (m n : ℕ) (due : Due) → all isPlace is ≡ true → m + length is ≤ minuteCount → length is ≤ n → follows due m ≡ true
+  pub trip : (is : List ℕ) (m n : ℕ) (due : Due) → all isPlace is ≡ true → m + length is ≤ minuteCount → length is ≤ n → follows due m ≡ true
       → readFrames n due (concat (invertEach is (frames p m (length is)))) ≡ sentFound p m is
   unfolding concat invertEach frames sentFound sentEntries seconds add stop all
   trip [] m n due l h s d = ended n due
@@ -82,3 +86,67 @@ unfolding readInto readRecording recorded follows
 recording-round-trip p m n is buffer s =
     rw (← s .one-each)
     (ap (outcome buffer) (trip p (s .legal) is m (length buffer / 12) Any (s .places) (omega arith) (omega arith) refl) ∙ outcome-sent p (s .legal) m is buffer)
+
+-- ---- inverting keeps every frame's length, and the recording's
+
+kept-at : (is : List ℕ) (fs : List (List ℕ)) (k : ℕ) → length (atRank k (invertEach is fs)) ≡ length (atRank k fs)
+unfolding invertEach
+kept-at [] fs k = refl
+kept-at (i ∷ is) [] k = refl
+kept-at (i ∷ is) (f ∷ fs) zero = inverts-one-bit .length-kept i f
+kept-at (i ∷ is) (f ∷ fs) (suc k) = kept-at is fs k
+
+pub lengths-kept : LengthsKept
+lengths-kept p m n is k = kept-at is (frames p m n) k
+
+kept-all : (is : List ℕ) (fs : List (List ℕ)) → length (concat (invertEach is fs)) ≡ length (concat fs)
+unfolding invertEach concat
+kept-all [] fs = refl
+kept-all (i ∷ is) [] = refl
+kept-all (i ∷ is) (f ∷ fs) =
+    length-append (inverted i f) (concat (invertEach is fs))
+    ∙ ap₂ _+_ (inverts-one-bit .length-kept i f) (kept-all is fs)
+    ∙ sym (length-append f (concat fs))
+
+pub length-recorded : (p : Plan) → legalPlan p ≡ true → (m n : ℕ) (is : List ℕ) → length (recorded p m n is) ≡ bitsSent p m n
+unfolding recorded recording
+length-recorded p legal m n is = kept-all is (frames p m n) ∙ length-recording p m n ∙ seconds-sent p legal m n
+
+no-frame : (p : Plan) (m n : ℕ) → invertEach (noPlaces n) (frames p m n) ≡ frames p m n
+unfolding invertEach frames
+no-frame p m zero = refl
+no-frame p m (suc n) = ap₂ _∷_ (inverts-one-bit .nothing (frame (sentBy p m))) (no-frame p (suc m) n)
+
+pub nothing-inverted : NothingInverted
+unfolding recorded recording
+nothing-inverted p m n = ap concat (no-frame p m n)
+
+-- ---- the entry buffer by ranks
+
+-- the bytes of the entry at a rank
+bytes-at : (is : List ℕ) (p : Plan) (m k : ℕ) (rest : List ℕ) → k < length is
+    → take 12 (drop (12 * k) (bytesOf (sentEntries p m is) ++ rest)) ≡ entryBytes (sentEntry (sentBy p (m + k)) (getD is k 0))
+unfolding bytesOf concat sentEntries entryBytes
+bytes-at [] p m k rest h = absurd (not-suc-le-zero h)
+bytes-at (i ∷ is) p m zero rest h = rw add-zero
+bytes-at (i ∷ is) p m (suc k) rest h =
+    let e : 12 * suc k ≡ 12 + 12 * k = omega arith in
+    rw (e, ← drop-drop (12 * k) 12 (bytesOf (sentEntries p m (i ∷ is)) ++ rest), add-suc, ← suc-add) (bytes-at is p (suc m) k rest (omega arith))
+
+module _ (p : Plan) (m n : ℕ) (is buffer : List ℕ) (s : Sending p m n is buffer) where
+  bytes-sent : length (bytesOf (sentEntries p m is)) ≡ 12 * n
+  bytes-sent = rw (length-bytes (sentEntries p m is), length-sent p m is, s .one-each)
+
+  sent-as-sent : AsSent (sentOutcome p m n is buffer) p m n is buffer
+  unfolding sentOutcome
+  sent-as-sent =
+      record {
+        outcome = refl;
+        all-bits = sym (length-recorded p (s .legal) m n is);
+        entry-at = λ k h. bytes-at is p m k (drop (12 * n) buffer) (omega arith);
+        others = drop-at (bytesOf (sentEntries p m is)) (drop (12 * n) buffer) (12 * n) bytes-sent;
+        same-size = length-rest (bytesOf (sentEntries p m is)) buffer (12 * n) bytes-sent (s .space);
+      }
+
+  pub read-as-sent : AsSent (readInto buffer (recorded p m n is)) p m n is buffer
+  read-as-sent = rw (recording-round-trip p m n is buffer s) sent-as-sent
