@@ -1,0 +1,340 @@
+/*
+ * Straightforward code: parity by masks and the compiler's parity of a word, correction by a table of syndromes, code
+ * words by tables and their inverses, bits moved one at a time, the calendar by cycles of four years, and the plan
+ * asked anew for each frame.
+ */
+#include "plain.h"
+
+#include <string.h>
+
+#define SYNC 0x768u /* 0011101101000 */
+
+struct plan {
+    uint32_t kind, spring, autumn, leap_month;
+    int32_t leap_sign;
+    uint32_t notice;
+};
+
+/* ---- dates; every fourth year of 2000 to 2099 is a leap year */
+
+static const uint16_t month_starts[2][13] = {
+    {0, 31, 59, 90, 120, 151, 181, 212, 243, 273, 304, 334, 365},
+    {0, 31, 60, 91, 121, 152, 182, 213, 244, 274, 305, 335, 366},
+};
+
+struct day {
+    uint32_t year; /* from 2000 */
+    uint32_t of_year;
+    uint32_t month; /* from 0 */
+};
+
+static struct day day_at(uint32_t number)
+{
+    struct day d;
+    uint32_t rest = number % 1461, year = rest < 366 ? 0 : (rest - 1) / 365;
+    const uint16_t *starts;
+
+    d.year = number / 1461 * 4 + year;
+    d.of_year = year == 0 ? rest : (rest - 1) % 365;
+    starts = month_starts[year == 0];
+    d.month = d.of_year / 31;
+    if (d.of_year >= starts[d.month + 1])
+        d.month++;
+    return d;
+}
+
+static uint32_t year_start(uint32_t year)
+{
+    return year * 365 + (year + 3) / 4;
+}
+
+wwvb_date_reply plain_minute_to_date(uint32_t minute)
+{
+    wwvb_date_reply r = {0, 0, 0, 0, 0, 0, 0};
+    struct day d;
+
+    if (minute >= WWVB_MINUTES) {
+        r.refusal = WWVB_MINUTE_TOO_LARGE;
+        return r;
+    }
+    d = day_at(minute / 1440);
+    r.year = 2000 + d.year;
+    r.month = d.month + 1;
+    r.day = d.of_year - month_starts[d.year % 4 == 0][d.month] + 1;
+    r.hour = minute % 1440 / 60;
+    r.minute = minute % 60;
+    r.weekday = minute / 1440 % 7;
+    return r;
+}
+
+wwvb_minute_reply plain_date_to_minute(uint32_t year, uint32_t month, uint32_t day, uint32_t hour, uint32_t minute)
+{
+    wwvb_minute_reply r = {WWVB_NOT_A_DATE, 0};
+    const uint16_t *starts = month_starts[year % 4 == 0];
+
+    if (year < 2000 || year > 2099 || month < 1 || month > 12 || day < 1
+        || day > (uint32_t)(starts[month] - starts[month - 1]) || hour > 23 || minute > 59)
+        return r;
+    r.refusal = WWVB_OK;
+    r.minute = ((year_start(year - 2000) + starts[month - 1] + day - 1) * 24 + hour) * 60 + minute;
+    return r;
+}
+
+/* ---- the time word */
+
+static const uint32_t parity_masks[5] = {0x0b3e375, 0x167c6ea, 0x2cf8dd4, 0x12cf8dd, 0x259f1ba};
+
+/* The place that each syndrome tells of. */
+static uint8_t place_of_syndrome[32];
+
+static uint32_t code_word(uint32_t minute)
+{
+    uint32_t word = minute;
+    int i;
+
+    for (i = 0; i < 5; i++)
+        word |= (uint32_t)__builtin_parity(minute & parity_masks[i]) << (26 + i);
+    return word;
+}
+
+/* ---- code words */
+
+static const uint8_t state_words[3][4] = {{8, 21, 22, 3}, {4, 14, 16, 13}, {25, 28, 26, 31}};
+static const uint8_t next_words[52] = {
+    0,
+    49, 38, 37, 21, 62, 22, 55, 61, 42, 27, 14, 1, 2, 8, 13, 41, 4, 32, 52, 44, 56, 16, 50, 28,
+    55, 21, 49, 22, 38, 62, 37, 61, 13, 1, 42, 8, 27, 2, 14, 41, 50, 44, 4, 16, 32, 56, 52, 28,
+    35, 7, 47,
+};
+static uint8_t state_of_word[32];  /* 4 * leap + daylight, or 99 */
+static uint8_t row_of_word[2][64]; /* by dst_on[1]; 0: unassigned */
+static int ready;
+
+static void fill_tables(void)
+{
+    int i;
+
+    memset(state_of_word, 99, sizeof state_of_word);
+    for (i = 0; i < 12; i++)
+        state_of_word[state_words[i / 4][i % 4]] = (uint8_t)i;
+    for (i = 1; i < 52; i++) {
+        if (i <= 24 || i > 48)
+            row_of_word[0][next_words[i]] = (uint8_t)i;
+        if (i > 24)
+            row_of_word[1][next_words[i]] = (uint8_t)i;
+    }
+    for (i = 1; i <= 31; i++) {
+        uint32_t word = 1u << (31 - i);
+        place_of_syndrome[(code_word(word & 0x3ffffff) ^ word) >> 26] = (uint8_t)i;
+    }
+    ready = 1;
+}
+
+/* ---- plans */
+
+static int is_legal(const struct plan *p)
+{
+    if (p->kind == 0) {
+        if (p->spring < 1 || p->spring > 24 || p->autumn < 25 || p->autumn > 48)
+            return 0;
+    } else if (p->kind > 2 || p->spring || p->autumn) {
+        return 0;
+    }
+    if (p->leap_sign < -1 || p->leap_sign > 1 || p->leap_month > 1199 || (p->leap_sign == 0 && p->leap_month))
+        return 0;
+    return p->notice <= 1;
+}
+
+static uint32_t first_sunday(uint32_t day)
+{
+    return day + (8 - day % 7) % 7;
+}
+
+static unsigned is_on(const struct plan *p, uint32_t day, uint32_t year)
+{
+    const uint16_t *starts = month_starts[year % 4 == 0];
+    uint32_t from = first_sunday(year_start(year) + starts[2]) + (p->spring - 1) % 8 * 7;
+    uint32_t to = first_sunday(year_start(year) + starts[10]) + (p->autumn - 25) % 8 * 7 - 28;
+
+    return day >= from && day < to;
+}
+
+/* Both bits change within one year, so the year of the day serves for the day before too. */
+static unsigned daylight_of(const struct plan *p, uint32_t day, const struct day *d)
+{
+    if (p->kind)
+        return p->kind == 1 ? 0 : 3;
+    return is_on(p, day, d->year) * 2 + (day ? is_on(p, day - 1, d->year) : 0);
+}
+
+static int ends_month(uint32_t minute, const struct day *d)
+{
+    return minute % 1440 == 1439 && d->of_year + 1 == month_starts[d->year % 4 == 0][d->month + 1];
+}
+
+static unsigned length_of(unsigned leap, uint32_t minute, const struct day *d)
+{
+    if (leap == 0 || !ends_month(minute, d))
+        return 60;
+    return leap == 1 ? 59 : 61;
+}
+
+static unsigned leap_of(const struct plan *p, const struct day *d)
+{
+    if (p->leap_sign == 0 || d->year * 12 + d->month != p->leap_month)
+        return 0;
+    return p->leap_sign < 0 ? 1 : 2;
+}
+
+/* ---- writing */
+
+static uint8_t *put(uint8_t *out, uint32_t value, int n)
+{
+    while (n--)
+        *out++ = value >> n & 1;
+    return out;
+}
+
+static size_t write_frame(const struct plan *p, uint32_t minute, uint8_t *out)
+{
+    uint32_t day = minute / 1440, word = code_word(minute);
+    struct day d = day_at(day);
+    unsigned daylight = daylight_of(p, day, &d), leap = leap_of(p, &d), length = length_of(leap, minute, &d);
+    unsigned state = state_words[leap][daylight];
+    unsigned row = p->kind == 0 ? (daylight < 2 ? p->spring : p->autumn) : p->kind == 1 ? 50 : 51;
+
+    out = put(out, SYNC, 13);
+    out = put(out, word >> 25, 6);
+    out = put(out, minute & 1, 1);
+    out = put(out, word >> 16, 9);
+    *out++ = 0;
+    out = put(out, word >> 7, 9);
+    *out++ = 0;
+    out = put(out, word, 7);
+    out = put(out, state >> 3, 2);
+    *out++ = (uint8_t)p->notice;
+    out = put(out, state, 3);
+    out = put(out, next_words[row], 6);
+    put(out, 0, (int)length - 59);
+    return length;
+}
+
+wwvb_write_reply plain_write_recording(uint32_t kind, uint32_t spring, uint32_t autumn, uint32_t leap_month,
+                                       int32_t leap_sign, uint32_t notice, uint32_t first, uint32_t count,
+                                       uint8_t *out, size_t out_length)
+{
+    struct plan p = {kind, spring, autumn, leap_month, leap_sign, notice};
+    wwvb_write_reply r = {0, 0};
+    size_t needed = 0;
+    uint32_t i;
+
+    if (!is_legal(&p))
+        r.refusal = WWVB_ILLEGAL_PLAN;
+    else if (count < 1 || count > WWVB_MAX_COUNT)
+        r.refusal = WWVB_BAD_COUNT;
+    else if (first > WWVB_MINUTES - count)
+        r.refusal = WWVB_MINUTE_TOO_LARGE;
+    if (r.refusal)
+        return r;
+    for (i = 0; i < count; i++) {
+        struct day d = day_at((first + i) / 1440);
+        needed += length_of(leap_of(&p, &d), first + i, &d);
+    }
+    if (needed > out_length) {
+        r.refusal = WWVB_NO_BIT_SPACE;
+        return r;
+    }
+    for (i = 0; i < count; i++)
+        out += write_frame(&p, first + i, out);
+    r.bits = needed;
+    return r;
+}
+
+/* ---- reading */
+
+static uint32_t get(const uint8_t *bits, int n)
+{
+    uint32_t value = 0;
+
+    while (n--)
+        value = value << 1 | *bits++;
+    return value;
+}
+
+static unsigned read_frame(const uint8_t *f, size_t left, uint8_t *entry, uint32_t due, int any)
+{
+    uint32_t word, minute;
+    unsigned i, state, row, place, echo, length = 60;
+
+    if (left < 59)
+        return WWVB_TOO_SHORT;
+    for (i = 0; i < 59; i++)
+        if (f[i] > 1)
+            return WWVB_NOT_BITS;
+    if (get(f, 13) != SYNC)
+        return WWVB_BAD_SYNC;
+    state = state_of_word[get(f + 47, 2) << 3 | get(f + 50, 3)];
+    if (state > 11)
+        return WWVB_BAD_STATE;
+    row = row_of_word[state % 4 >= 2][get(f + 53, 6)];
+    if (row == 0)
+        return WWVB_BAD_NEXT_CHANGE;
+    word = get(f + 13, 6) << 25 | get(f + 20, 9) << 16 | get(f + 30, 9) << 7 | get(f + 40, 7);
+    place = place_of_syndrome[(code_word(word & 0x3ffffff) ^ word) >> 26];
+    if (place)
+        word ^= 1u << (31 - place);
+    minute = word & 0x3ffffff;
+    if (minute >= WWVB_MINUTES)
+        return WWVB_BAD_MINUTE;
+    echo = f[19] == (minute & 1);
+    if (place && !echo)
+        return WWVB_BAD_ECHO;
+    if (state >= 4) {
+        struct day d = day_at(minute / 1440);
+        length = length_of(state / 4, minute, &d);
+    }
+    if (left < length)
+        return WWVB_BAD_LENGTH;
+    for (i = 59; i < length; i++)
+        if (f[i])
+            return WWVB_BAD_LENGTH;
+    if (!any && minute != due)
+        return WWVB_OUT_OF_ORDER;
+    entry[0] = (uint8_t)(minute >> 24);
+    entry[1] = (uint8_t)(minute >> 16);
+    entry[2] = (uint8_t)(minute >> 8);
+    entry[3] = (uint8_t)minute;
+    entry[4] = (uint8_t)length;
+    entry[5] = state % 4;
+    entry[6] = (uint8_t)(state / 4);
+    entry[7] = (uint8_t)row;
+    entry[8] = f[49];
+    entry[9] = (uint8_t)place;
+    entry[10] = (uint8_t)echo;
+    entry[11] = 0;
+    return WWVB_OK;
+}
+
+wwvb_read_reply plain_read_recording(const uint8_t *bits, size_t bits_length, uint8_t *entries, size_t entries_length)
+{
+    wwvb_read_reply r = {0, 0, 0};
+    uint32_t due = 0;
+
+    if (!ready)
+        fill_tables();
+    while (r.used < bits_length) {
+        uint8_t *entry = entries + r.entries * WWVB_ENTRY_SIZE;
+
+        if (entries_length - r.entries * WWVB_ENTRY_SIZE < WWVB_ENTRY_SIZE) {
+            r.refusal = WWVB_NO_ENTRY_SPACE;
+            return r;
+        }
+        r.refusal = read_frame(bits + r.used, bits_length - r.used, entry, due, r.entries == 0);
+        if (r.refusal)
+            return r;
+        due = ((uint32_t)entry[0] << 24 | (uint32_t)entry[1] << 16 | (uint32_t)entry[2] << 8 | entry[3]) + 1;
+        r.used += entry[4];
+        r.entries++;
+    }
+    return r;
+}

@@ -1,0 +1,825 @@
+/*
+ * Compares every call of the library with the plain C reference: on boundary cases, and on seeded random ones, valid and
+ * damaged. Each buffer stands between guard bytes and a page that may not be touched; buffer and guards are compared
+ * whole after the call, refused or not.
+ *
+ * usage: compare [CASES [SEED [exact]]]
+ *   exact: buffers are blocks of malloc of just their length, for valgrind
+ */
+#define _DEFAULT_SOURCE
+#include "reference.h"
+#include "wwvb.h"
+
+#include <inttypes.h>
+#include <stdio.h>
+#include <stdlib.h>
+#include <string.h>
+#include <sys/mman.h>
+
+#define GUARD 64
+#define ROOM (WWVB_MAX_RECORDING + 4096)
+#define MINUTES WWVB_MINUTES
+
+enum call { TO_DATE, TO_MINUTE, WRITE, ONE, READ, CALLS };
+
+static const char *const call_names[CALLS] = {
+    "wwvb_minute_to_date", "wwvb_date_to_minute", "wwvb_write_recording", "wwvb_read_frame", "wwvb_read_recording",
+};
+
+/* The numbers that a call can give. */
+static int can_give(enum call c, unsigned n)
+{
+    switch (c) {
+    case TO_DATE: return n == 0 || n == 3;
+    case TO_MINUTE: return n == 0 || n == 15;
+    case WRITE: return n <= 4;
+    case ONE: return n == 0 || (n >= 5 && n <= 13);
+    default: return n == 0 || (n >= 5 && n <= 14);
+    }
+}
+
+static unsigned long seen[CALLS][16]; /* by call and number */
+static unsigned long later[16];       /* refusals of a recording's later frames */
+static unsigned long lengths[CALLS][62];
+static unsigned long cases;
+static uint64_t seed = 1;
+static int exact;
+
+static void fail(enum call c, const char *what)
+{
+    fprintf(stderr, "compare: %s, case %lu: %s differs\n", call_names[c], cases, what);
+    exit(1);
+}
+
+static void count(enum call c, size_t n)
+{
+    cases++;
+    if (n > 15 || !can_give(c, (unsigned)n))
+        fail(c, "the set of numbers that it can give");
+    seen[c][n]++;
+}
+
+/* ---- random numbers (splitmix64) */
+
+static uint64_t rnd(void)
+{
+    uint64_t z = seed += 0x9e3779b97f4a7c15u;
+    z = (z ^ z >> 30) * 0xbf58476d1ce4e5b9u;
+    z = (z ^ z >> 27) * 0x94d049bb133111ebu;
+    return z ^ z >> 31;
+}
+
+static uint32_t below(uint32_t n)
+{
+    return (uint32_t)(rnd() % n);
+}
+
+static int one_in(uint32_t n)
+{
+    return below(n) == 0;
+}
+
+/* ---- guarded buffers */
+
+/* A buffer of any length up to ROOM, its bytes as they should be after the call, and its guard bytes. */
+struct buffer {
+    uint8_t *base; /* the pages between two that may not be touched, or the block of malloc */
+    uint8_t *at;   /* the buffer */
+    size_t length;
+    int at_end; /* whether it ends at the page behind, or begins at the page before */
+    uint8_t *want;
+};
+
+static struct buffer in_buffer, out_buffer;
+
+static void make(struct buffer *b)
+{
+    size_t page = 4096, pages = (ROOM + 2 * GUARD + page - 1) / page + 2;
+
+    b->want = malloc(ROOM);
+    if (!b->want)
+        abort();
+    if (exact)
+        return;
+    b->base = mmap(NULL, pages * page, PROT_NONE, MAP_PRIVATE | MAP_ANONYMOUS, -1, 0);
+    if (b->base == MAP_FAILED || mprotect(b->base + page, (pages - 2) * page, PROT_READ | PROT_WRITE) != 0)
+        abort();
+    b->base += page;
+}
+
+static size_t area(void)
+{
+    return (ROOM + 2 * GUARD + 4095) / 4096 * 4096;
+}
+
+static uint8_t guard_byte(size_t i)
+{
+    return (uint8_t)(0xa5 ^ i * 29);
+}
+
+/* A buffer of so many bytes, which it wants unchanged. */
+static void lay(struct buffer *b, const uint8_t *bytes, size_t length)
+{
+    size_t i;
+
+    b->length = length;
+    if (exact) {
+        free(b->base);
+        b->at = b->base = malloc(length ? length : 1);
+        if (!b->base)
+            abort();
+        if (length == 0)
+            b->at = one_in(2) ? NULL : b->base + 1;
+    } else {
+        b->at_end = one_in(2);
+        b->at = b->at_end ? b->base + area() - length : b->base;
+        for (i = 0; i < GUARD; i++)
+            *(b->at_end ? b->at - 1 - i : b->at + length + i) = guard_byte(i);
+        if (length == 0 && one_in(2))
+            b->at = NULL;
+    }
+    if (length) {
+        memcpy(b->at, bytes, length);
+        memcpy(b->want, bytes, length);
+    }
+}
+
+static void check(enum call c, const struct buffer *b, const char *what)
+{
+    size_t i;
+
+    if (b->length && memcmp(b->at, b->want, b->length) != 0)
+        fail(c, what);
+    if (exact)
+        return;
+    for (i = 0; i < GUARD; i++) {
+        const uint8_t *end = b->base + area() - b->length;
+        if (*(b->at_end ? end - 1 - i : b->base + b->length + i) != guard_byte(i))
+            fail(c, "a guard byte");
+    }
+}
+
+/* Random bytes, to stand in a buffer before a call writes it. */
+static uint8_t noise[ROOM];
+
+static void lay_noise(struct buffer *b, size_t length)
+{
+    lay(b, noise + below((uint32_t)(ROOM - length + 1)), length);
+}
+
+/* ---- the calls, each beside the reference */
+
+static void try_to_date(uint32_t minute)
+{
+    struct ref_date d = {0, 0, 0, 0, 0, 0};
+    unsigned refusal = ref_minute_to_date(minute, &d);
+    wwvb_date_reply r = wwvb_minute_to_date(minute);
+
+    count(TO_DATE, r.refusal);
+    if (r.refusal != refusal)
+        fail(TO_DATE, "the number");
+    if (r.year != d.year || r.month != d.month || r.day != d.day || r.hour != d.hour || r.minute != d.minute
+        || r.weekday != d.weekday)
+        fail(TO_DATE, "the date");
+}
+
+static void try_to_minute(uint32_t year, uint32_t month, uint32_t day, uint32_t hour, uint32_t minute)
+{
+    struct ref_date d = {year, month, day, hour, minute, 0};
+    uint32_t want = 0;
+    unsigned refusal = ref_date_to_minute(&d, &want);
+    wwvb_minute_reply r = wwvb_date_to_minute(year, month, day, hour, minute);
+
+    count(TO_MINUTE, r.refusal);
+    if (r.refusal != refusal)
+        fail(TO_MINUTE, "the number");
+    if (r.minute != want)
+        fail(TO_MINUTE, "the minute");
+}
+
+static void try_write(const struct ref_plan *p, uint32_t first, uint32_t n, size_t space)
+{
+    size_t bits = 0;
+    unsigned refusal;
+    wwvb_write_reply r;
+
+    lay_noise(&out_buffer, space);
+    refusal = ref_write(p, first, n, out_buffer.want, space, &bits);
+    r = wwvb_write_recording(p->kind, p->spring, p->autumn, p->leap_month, p->leap_sign, p->notice, first, n,
+                             out_buffer.at, space);
+    count(WRITE, r.refusal);
+    if (r.refusal != refusal)
+        fail(WRITE, "the number");
+    if (r.bits != bits)
+        fail(WRITE, "the number of bits");
+    check(WRITE, &out_buffer, "the buffer");
+    if (refusal == 0 && n == 1)
+        lengths[WRITE][bits]++;
+}
+
+static void try_one(const uint8_t *bits, size_t length, size_t space)
+{
+    unsigned refusal;
+    uint32_t r;
+
+    lay(&in_buffer, bits, length);
+    lay_noise(&out_buffer, space);
+    refusal = ref_read_frame(in_buffer.want, length, out_buffer.want, space);
+    r = wwvb_read_frame(in_buffer.at, length, out_buffer.at, space);
+    count(ONE, r);
+    if (r != refusal)
+        fail(ONE, "the number");
+    check(ONE, &in_buffer, "the bits");
+    check(ONE, &out_buffer, "the entry buffer");
+    if (r == 0)
+        lengths[ONE][length]++;
+}
+
+static void try_read(const uint8_t *bits, size_t length, size_t space)
+{
+    size_t n, used, i;
+    unsigned refusal;
+    wwvb_read_reply r;
+
+    lay(&in_buffer, bits, length);
+    lay_noise(&out_buffer, space);
+    refusal = ref_read(in_buffer.want, length, out_buffer.want, space, &n, &used);
+    r = wwvb_read_recording(in_buffer.at, length, out_buffer.at, space);
+    count(READ, r.refusal);
+    if (r.refusal != refusal)
+        fail(READ, "the number");
+    if (r.entries != n)
+        fail(READ, "the number of entries");
+    if (r.used != used)
+        fail(READ, "the number of bits used");
+    check(READ, &in_buffer, "the bits");
+    check(READ, &out_buffer, "the entry buffer");
+    if (n)
+        later[refusal]++;
+    for (i = 0; i < n; i++)
+        lengths[READ][out_buffer.at[i * WWVB_ENTRY_SIZE + WWVB_ENTRY_LENGTH]]++;
+}
+
+/* ---- inputs */
+
+static uint32_t month_end(uint32_t month) /* the last minute of a month, counted from January 2000 */
+{
+    struct ref_date d = {2000 + month / 12, month % 12 + 1, 28, 23, 59, 0};
+    uint32_t minute = 0;
+
+    ref_date_to_minute(&d, &minute);
+    while (!ref_last_of_month(minute))
+        minute += 1440;
+    return minute;
+}
+
+static struct ref_plan random_plan(void)
+{
+    struct ref_plan p = {0, 0, 0, 0, 0, 0};
+
+    p.kind = one_in(3) ? 1 + below(2) : 0;
+    if (p.kind == 0) {
+        p.spring = 1 + below(24);
+        p.autumn = 25 + below(24);
+    }
+    p.leap_sign = (int32_t)below(3) - 1;
+    p.leap_month = p.leap_sign ? below(1200) : 0;
+    p.notice = below(2);
+    return p;
+}
+
+/* A number that may be just beyond a limit, or anything. */
+static uint32_t odd_number(uint32_t limit)
+{
+    switch (below(5)) {
+    case 0: return limit + 1;
+    case 1: return limit;
+    case 2: return below(limit + 1);
+    case 3: return 0u - below(3);
+    default: return (uint32_t)rnd();
+    }
+}
+
+static void spoil(struct ref_plan *p)
+{
+    switch (below(7)) {
+    case 0: p->kind = odd_number(2); break;
+    case 1: p->spring = odd_number(one_in(2) ? 24 : 48); break;
+    case 2: p->autumn = odd_number(one_in(2) ? 24 : 48); break;
+    case 3: p->leap_month = odd_number(1199); break;
+    case 4: p->leap_sign = (int32_t)odd_number(1); break;
+    case 5: p->notice = odd_number(1); break;
+    default: p->leap_sign = 0; break;
+    }
+}
+
+/* A minute near something: a month's end, the leap month's, a change of state, a limit; or any. */
+static uint32_t random_minute(const struct ref_plan *p)
+{
+    uint32_t m;
+
+    switch (below(6)) {
+    case 0: m = month_end(p->leap_month); break;
+    case 1: m = month_end(below(1200)); break;
+    case 2: m = below(36525) * 1440; break;
+    case 3: m = one_in(2) ? 0 : MINUTES - 1; break;
+    default: return below(MINUTES);
+    }
+    m += below(5) - 2;
+    return m < MINUTES ? m : below(MINUTES);
+}
+
+static uint32_t few(void)
+{
+    return one_in(2000) ? 1000 - below(2) : one_in(60) ? 1 + below(40) : 1 + below(4);
+}
+
+/* A recording of the reference's in `bits`; gives its length. */
+static size_t recording(const struct ref_plan *p, uint32_t first, uint32_t n, uint8_t *bits)
+{
+    size_t length = 0;
+
+    if (first > MINUTES - n)
+        first = MINUTES - n;
+    if (ref_write(p, first, n, bits, ROOM, &length) != 0)
+        abort();
+    return length;
+}
+
+static void set_word(uint8_t *bits, unsigned value, unsigned n)
+{
+    while (n--) {
+        bits[n] = value & 1;
+        value >>= 1;
+    }
+}
+
+static void set_state(uint8_t *frame, unsigned word)
+{
+    set_word(frame + 47, word >> 3, 2);
+    set_word(frame + 50, word & 7, 3);
+}
+
+/* One damage to the frame at bits[at]; gives the recording's new length. */
+static size_t damage(uint8_t *bits, size_t length, size_t at)
+{
+    uint8_t *f = bits + at;
+    size_t left = length - at;
+    unsigned i;
+
+    switch (below(13)) {
+    case 0: /* one bit of the time word */
+    case 1: f[ref_bit_of_place(1 + below(31))] ^= 1; break;
+    case 2: /* two bits of it */
+        f[ref_bit_of_place(1 + below(31))] ^= 1;
+        f[ref_bit_of_place(1 + below(31))] ^= 1;
+        break;
+    case 3: bits[below((uint32_t)length)] ^= 1; break;
+    case 4: f[19] ^= 1; break;
+    case 5: f[below((uint32_t)left)] = (uint8_t)rnd(); break;
+    case 6: set_state(f, below(32)); break;
+    case 7: set_word(f + 53, below(64), 6); break;
+    case 8: return below((uint32_t)length + 1);
+    case 9: /* bytes behind */
+        for (i = 1 + below(62); i; i--)
+            bits[length++] = one_in(3) ? (uint8_t)rnd() : 0;
+        break;
+    case 10: /* any time word */
+        for (i = 1; i <= 31; i++)
+            f[ref_bit_of_place(i)] = below(2);
+        break;
+    case 11: /* any bits behind the sync word */
+        for (i = 13; i < 59; i++)
+            f[i] = below(2);
+        break;
+    default: /* a bit lost, or one more */
+        i = below((uint32_t)left);
+        if (one_in(2)) {
+            memmove(f + i, f + i + 1, left - i - 1);
+            return length - 1;
+        }
+        memmove(f + i + 1, f + i, left - i);
+        return length + 1;
+    }
+    return length;
+}
+
+/* ---- random cases */
+
+static void random_dates(void)
+{
+    struct ref_date d = {0, 0, 0, 0, 0, 0};
+
+    try_to_date(one_in(8) ? odd_number(MINUTES - 1) : below(MINUTES));
+    ref_minute_to_date(one_in(4) ? month_end(below(1200)) : below(MINUTES), &d);
+    switch (one_in(2) ? below(6) : 99) {
+    case 0: d.year = one_in(2) ? odd_number(2099) : odd_number(1999); break;
+    case 1: d.month = odd_number(12); break;
+    case 2: d.day = odd_number(28 + below(4)); break;
+    case 3: d.hour = odd_number(23); break;
+    case 4: d.minute = odd_number(59); break;
+    case 5: d.day++; break;
+    default: break;
+    }
+    try_to_minute(d.year, d.month, d.day, d.hour, d.minute);
+}
+
+static void random_write(void)
+{
+    struct ref_plan p = random_plan();
+    uint32_t first = random_minute(&p), n = few();
+    size_t space = (size_t)n * 60;
+
+    if (one_in(8))
+        spoil(&p);
+    if (one_in(16))
+        n = odd_number(1000);
+    if (one_in(16))
+        first = odd_number(MINUTES - 1);
+    if (space > WWVB_MAX_RECORDING)
+        space = WWVB_MAX_RECORDING;
+    switch (below(8)) {
+    case 0: space = below((uint32_t)space + 1); break;
+    case 1: space += below(100); break;
+    case 2: space = 0; break;
+    case 3: space -= 1; break;
+    case 4: space += 1; break;
+    default: break;
+    }
+    try_write(&p, first, n, space);
+}
+
+static uint8_t scratch[ROOM + 4096];
+
+static void random_one(void)
+{
+    struct ref_plan p = random_plan();
+    size_t length = recording(&p, random_minute(&p), 1, scratch), space = WWVB_ENTRY_SIZE;
+
+    while (one_in(2) && length >= 59)
+        length = damage(scratch, length, 0);
+    if (one_in(10))
+        space = below(25);
+    try_one(scratch, length, space);
+}
+
+static void random_read(void)
+{
+    struct ref_plan p = random_plan();
+    uint32_t n = few(), first = random_minute(&p), i;
+    size_t length = recording(&p, first, n, scratch), space = (size_t)n * WWVB_ENTRY_SIZE;
+
+    if (one_in(3)) /* one bit of the time word in each frame, while the frames have 60 bits */
+        for (i = 0; i < n && (size_t)i * 60 + 60 <= length; i++)
+            if (one_in(2))
+                scratch[i * 60 + ref_bit_of_place(1 + below(31))] ^= 1;
+    if (one_in(4)) { /* more frames, in order or not, by the same plan or another */
+        if (one_in(2))
+            p = random_plan();
+        if (length + 61 * 4 < ROOM) {
+            length += recording(&p, one_in(2) ? first + n : first + n + below(3) - 1, 1 + below(3), scratch + length);
+            space += 3 * WWVB_ENTRY_SIZE;
+        }
+    }
+    while (one_in(2) && length >= 61 && length + 128 < ROOM)
+        length = damage(scratch, length, below((uint32_t)(length / 60)) * 60 + 59 <= length - 1 ? below((uint32_t)((length - 59) / 60 + 1)) * 60 : 0);
+    switch (below(12)) {
+    case 0: space = below((uint32_t)space + 1); break;
+    case 1: space += below(40); break;
+    case 2: space = space / 12 * 12 - 1; break;
+    default: break;
+    }
+    try_read(scratch, length, space);
+}
+
+/* ---- boundary cases */
+
+static void boundary_dates(void)
+{
+    static const uint32_t parts[] = {0, 1, 2, 12, 13, 23, 24, 28, 29, 30, 31, 32, 59, 60, 0xffffffffu};
+    uint32_t day, y, m, d;
+    size_t i, k, n = sizeof parts / sizeof *parts;
+
+    for (day = 0; day < 36526; day++) {
+        try_to_date(day * 1440);
+        try_to_date(day * 1440 + 1439);
+    }
+    try_to_date(MINUTES);
+    try_to_date(0xffffffffu);
+    for (y = 1999; y <= 2100; y++)
+        for (m = 0; m <= 13; m++)
+            for (d = 0; d <= 32; d++)
+                try_to_minute(y, m, d, d % 24, d);
+    for (i = 0; i < n; i++)
+        for (k = 0; k < n; k++) {
+            try_to_minute(2000, parts[i], parts[k], 0, 0);
+            try_to_minute(2099, 2, 28, parts[i], parts[k]);
+            try_to_minute(parts[i], 1, 1, 0, parts[k]);
+        }
+}
+
+static void boundary_plans(void)
+{
+    static const uint32_t rows[] = {0, 1, 8, 9, 16, 17, 24, 25, 32, 33, 40, 41, 48, 49, 50, 51, 52, 0xffffffffu};
+    size_t i, k, n = sizeof rows / sizeof *rows;
+    uint32_t kind, month;
+    int32_t sign;
+
+    for (kind = 0; kind <= 3; kind++)
+        for (i = 0; i < n; i++)
+            for (k = 0; k < n; k++) {
+                struct ref_plan p = {0, 0, 0, 0, 0, 0};
+                p.kind = kind;
+                p.spring = rows[i];
+                p.autumn = rows[k];
+                try_write(&p, below(MINUTES), 1, 60);
+                p.leap_sign = 2;
+                try_write(&p, below(MINUTES), 0, 60);
+            }
+    for (month = 0; month <= 1201; month++)
+        for (sign = -2; sign <= 2; sign++) {
+            struct ref_plan p = {1, 0, 0, 0, 0, 0};
+            uint32_t end = month_end(month < 1200 ? month : 1199), m;
+            size_t space;
+            p.leap_month = month;
+            p.leap_sign = sign;
+            p.notice = month % 3;
+            for (m = end < 1 ? 0 : end - 1; m <= end + 1; m++)
+                for (space = 58; space <= 62; space++)
+                    try_write(&p, m, 1, space);
+            try_write(&p, end - 1, 3, 179);
+            try_write(&p, end - 1, 3, 181);
+        }
+}
+
+/* The four daylight states of each pair of rows, around each change. */
+static void boundary_changes(void)
+{
+    uint32_t row, year, day, first, last;
+
+    for (row = 0; row < 24; row++)
+        for (year = 2000; year < 2100; year += 1 + row % 3) {
+            struct ref_plan p = {0, 0, 0, 0, 0, 0};
+            struct ref_date d = {0, 3, 1, 0, 0, 0};
+            p.spring = 1 + row;
+            p.autumn = 48 - row;
+            d.year = year;
+            ref_date_to_minute(&d, &first);
+            d.month = 12;
+            ref_date_to_minute(&d, &last);
+            for (day = first / 1440; day <= last / 1440; day += day % 7 == 3 ? 3 : 1) {
+                if (day * 1440 - first > 70 * 1440 && last - day * 1440 > 70 * 1440)
+                    continue;
+                try_write(&p, day * 1440 - 1, 2, 120);
+            }
+        }
+}
+
+static void boundary_counts(void)
+{
+    static const uint32_t counts[] = {0, 1, 2, 999, 1000, 1001, 0x7fffffffu, 0x80000000u, 0xffffffffu};
+    struct ref_plan p = {0, 10, 37, 149, 1, 0};
+    size_t i;
+    uint32_t k;
+
+    for (i = 0; i < sizeof counts / sizeof *counts; i++) {
+        uint32_t n = counts[i];
+        for (k = 0; k < 5; k++) {
+            try_write(&p, MINUTES - n + k - 2, n, ROOM);
+            try_write(&p, 0u - n + k - 2, n, ROOM);
+            try_write(&p, 6573599 - 500 + k, n, 60000 + k - 2);
+            try_write(&p, k, n, (size_t)n % 1001 * 60 + k - 2 < ROOM ? (size_t)n % 1001 * 60 + k - 2 : 0);
+        }
+    }
+}
+
+static void boundary_frames(void)
+{
+    struct ref_plan p = {0, 10, 37, 149, 1, 1};
+    uint8_t frame[128];
+    unsigned state, next, place, other, length, space, i;
+    int32_t sign;
+
+    /* every state word with every next-change word, in an ordinary minute and in the last of a month */
+    for (state = 0; state < 32; state++)
+        for (next = 0; next < 64; next++)
+            for (length = 58; length <= 62; length++) {
+                memset(frame, 0, sizeof frame);
+                recording(&p, 6573599 + next % 2, 1, frame);
+                set_state(frame, state);
+                set_word(frame + 53, next, 6);
+                try_one(frame, length, 12);
+                try_read(frame, length, 12);
+            }
+    /* every one and two places inverted, the echo right and wrong */
+    for (place = 0; place <= 31; place++)
+        for (other = place; other <= 31; other++)
+            for (i = 0; i < 8; i++) {
+                static const uint32_t minutes[4] = {0, 1, 6578970, MINUTES - 1};
+                length = (unsigned)recording(&p, minutes[i % 4], 1, frame);
+                if (place)
+                    frame[ref_bit_of_place(place)] ^= 1;
+                if (other > place)
+                    frame[ref_bit_of_place(other)] ^= 1;
+                frame[19] ^= i / 4;
+                try_one(frame, length, 12);
+                try_read(frame, length, 12);
+            }
+    /* every byte at other values, each length and space */
+    for (sign = -1; sign <= 1; sign++) {
+        p.leap_sign = sign;
+        p.leap_month = sign ? 149 : 0;
+        for (i = 0; i < 61; i++)
+            for (other = 0; other < 5; other++) {
+                static const uint8_t values[5] = {0, 1, 2, 128, 255};
+                memset(frame, 0, sizeof frame);
+                length = (unsigned)recording(&p, 6573599, 1, frame);
+                frame[i] = values[other];
+                try_one(frame, length, 12);
+                try_read(frame, length, 12);
+            }
+        for (length = 0; length <= 64; length++)
+            for (space = 0; space <= 26; space++) {
+                memset(frame, 0, sizeof frame);
+                recording(&p, 6573599, 1, frame);
+                try_one(frame, length, space);
+                try_read(frame, length, space);
+            }
+    }
+}
+
+static void boundary_recordings(void)
+{
+    static uint8_t bits[ROOM];
+    int32_t sign;
+    size_t length, space;
+    uint32_t k;
+
+    for (sign = -1; sign <= 1; sign++) {
+        struct ref_plan p = {0, 10, 37, 0, 0, 0};
+        p.leap_sign = sign;
+        p.leap_month = sign ? 149 : 0;
+        for (k = 0; k < 1000; k += 333) {
+            length = recording(&p, 6573599 - k, 1000, bits);
+            for (space = 12000 - 13; space <= 12000 + 1; space++)
+                try_read(bits, length, space);
+            for (space = 0; space < 3; space++)
+                try_read(bits, length - space, 12000);
+        }
+        /* each frame of three: the bits of each number behind, and each length */
+        length = recording(&p, 6573598, 3, bits);
+        for (space = 0; space <= length; space++) {
+            try_read(bits, space, 36);
+            try_read(bits, space, 24);
+            try_read(bits + space, length - space, 36);
+        }
+    }
+    try_read(bits, 0, 0);
+    try_read(bits, 0, 12);
+}
+
+/* ---- the bench table of document 01 */
+
+static void expect(int ok, const char *what)
+{
+    if (!ok) {
+        fprintf(stderr, "compare: document 01: %s\n", what);
+        exit(1);
+    }
+}
+
+static int is_date(uint32_t t, uint32_t year, uint32_t month, uint32_t day, uint32_t hour, uint32_t minute)
+{
+    wwvb_date_reply r = wwvb_minute_to_date(t);
+    wwvb_minute_reply back = wwvb_date_to_minute(year, month, day, hour, minute);
+
+    return r.refusal == 0 && r.year == year && r.month == month && r.day == day && r.hour == hour
+        && r.minute == minute && back.refusal == 0 && back.minute == t;
+}
+
+static size_t frame_of(uint32_t month, int32_t sign, uint32_t minute, uint8_t f[61])
+{
+    wwvb_write_reply r = wwvb_write_recording(0, 10, 37, month, sign, 0, minute, 1, f, 61);
+    return r.refusal ? 0 : r.bits;
+}
+
+static int is_daylight(uint32_t minute, unsigned state)
+{
+    uint8_t f[61], e[12];
+    return frame_of(0, 0, minute, f) == 60 && wwvb_read_frame(f, 60, e, 12) == 0 && e[WWVB_ENTRY_DAYLIGHT] == state;
+}
+
+static int has_parity(uint32_t minute, const char *parity)
+{
+    uint8_t f[61];
+    unsigned i;
+
+    frame_of(0, 0, minute, f);
+    for (i = 0; i < 5; i++)
+        if (f[13 + i] != parity[i] - '0')
+            return 0;
+    return 1;
+}
+
+static void document(void)
+{
+    static const char text[] = "001110110100010010000011001000011000110000110100000110110110";
+    uint8_t f[61], e[12];
+    unsigned i;
+
+    expect(is_date(0, 2000, 1, 1, 0, 0) && wwvb_minute_to_date(0).weekday == 0, "minute 0");
+    expect(has_parity(0, "00000") && has_parity(1, "01001") && has_parity(6578970, "10010"), "parity");
+    expect(is_date(84960, 2000, 2, 29, 0, 0), "84,960");
+    expect(is_date(6578970, 2012, 7, 4, 17, 30), "6,578,970");
+    expect(is_date(8717610, 2016, 7, 28, 21, 30), "8,717,610");
+    expect(is_date(52595999, 2099, 12, 31, 23, 59), "52,595,999");
+    expect(wwvb_minute_to_date(52596000).refusal == WWVB_MINUTE_TOO_LARGE, "52,596,000");
+    expect(is_daylight(6412319, 0) && is_daylight(6412320, 2) && is_daylight(6413760, 3), "rows 10, 37 in spring");
+    expect(is_daylight(6755039, 3) && is_daylight(6755040, 1) && is_daylight(6756480, 0), "rows 10, 37 in autumn");
+    expect(frame_of(149, 1, 6573599, f) == 61 && frame_of(149, -1, 6573599, f) == 59, "the leap minute");
+    expect(frame_of(149, 1, 6573600, f) == 60 && wwvb_read_frame(f, 60, e, 12) == 0 && e[WWVB_ENTRY_LEAP] == 0,
+           "the minute after it");
+    frame_of(0, 0, 0, f);
+    f[46] ^= 1;
+    expect(wwvb_read_frame(f, 60, e, 12) == 0 && (e[0] | e[1] | e[2] | e[3]) == 0 && e[WWVB_ENTRY_PLACE] == 31,
+           "time[0] inverted");
+    f[45] ^= 1;
+    expect(wwvb_read_frame(f, 60, e, 12) == WWVB_BAD_ECHO, "time[0] and time[1] inverted");
+    f[46] ^= 1;
+    f[44] ^= 1;
+    expect(wwvb_read_frame(f, 60, e, 12) == 0 && e[1] == 0 && e[2] == 32774 / 256 && e[3] == 32774 % 256,
+           "time[1] and time[2] inverted");
+    frame_of(0, 0, 0, f);
+    set_state(f, 2);
+    expect(wwvb_read_frame(f, 60, e, 12) == WWVB_BAD_STATE, "state word 00010");
+    expect(frame_of(0, 0, 6578970, f) == 60, "the frame of station's example");
+    for (i = 0; i < 60; i++)
+        expect(f[i] == text[i] - '0', "the frame of station's example");
+}
+
+/* ---- */
+
+static int report(void)
+{
+    int c, missing = 0;
+    unsigned n;
+
+    for (c = 0; c < CALLS; c++) {
+        printf("%-22s", call_names[c]);
+        for (n = 0; n < 16; n++)
+            if (can_give((enum call)c, n)) {
+                printf(" %u:%lu", n, seen[c][n]);
+                missing += seen[c][n] == 0;
+            }
+        printf("\n");
+    }
+    printf("%-22s", "  behind a frame read");
+    for (n = 5; n <= 14; n++) {
+        printf(" %u:%lu", n, later[n]);
+        missing += later[n] == 0;
+    }
+    printf("\n");
+    for (c = WRITE; c < CALLS; c++) {
+        printf("%-22s lengths", call_names[c]);
+        for (n = 59; n <= 61; n++) {
+            printf(" %u:%lu", n, lengths[c][n]);
+            missing += lengths[c][n] == 0;
+        }
+        printf("\n");
+    }
+    if (missing)
+        fprintf(stderr, "compare: %d numbers or lengths were never seen\n", missing);
+    return missing;
+}
+
+int main(int argc, char **argv)
+{
+    unsigned long wanted = argc > 1 ? strtoul(argv[1], NULL, 10) : 1000000, boundary;
+    uint64_t first_seed = argc > 2 ? strtoull(argv[2], NULL, 10) : 1;
+    size_t i;
+
+    exact = argc > 3 && strcmp(argv[3], "exact") == 0;
+    seed = first_seed;
+    for (i = 0; i < sizeof noise; i++)
+        noise[i] = (uint8_t)rnd();
+    make(&in_buffer);
+    make(&out_buffer);
+    document();
+    boundary_dates();
+    if (!exact) {
+        boundary_plans();
+        boundary_changes();
+        boundary_counts();
+        boundary_frames();
+    }
+    boundary_recordings();
+    boundary = cases;
+    while (cases - boundary < wanted) {
+        random_dates();
+        random_write();
+        random_one();
+        random_read();
+    }
+    printf("compare: %lu boundary cases, %lu random cases, seed %" PRIu64 "\n", boundary, cases - boundary, first_seed);
+    return report() ? 1 : 0;
+}

@@ -1,0 +1,387 @@
+#include "reference.h"
+
+#include <string.h>
+
+#define MINUTES 52596000u
+#define SYNC "0011101101000"
+
+/* ---- minutes and dates */
+
+static const unsigned month_lengths[2][12] = {
+    {31, 28, 31, 30, 31, 30, 31, 31, 30, 31, 30, 31},
+    {31, 29, 31, 30, 31, 30, 31, 31, 30, 31, 30, 31},
+};
+
+static int leap_year(unsigned year)
+{
+    return year % 4 == 0 && (year % 100 != 0 || year % 400 == 0);
+}
+
+/* Counts up from 2000-01-01, a year and then a month at a time. */
+static struct ref_date date_of(uint32_t minute)
+{
+    struct ref_date d = {2000, 1, 1, 0, 0, 0};
+    uint32_t days = minute / 1440;
+
+    d.hour = minute % 1440 / 60;
+    d.minute = minute % 60;
+    d.weekday = days % 7;
+    while (days >= (leap_year(d.year) ? 366u : 365u)) {
+        days -= leap_year(d.year) ? 366 : 365;
+        d.year++;
+    }
+    while (days >= month_lengths[leap_year(d.year)][d.month - 1]) {
+        days -= month_lengths[leap_year(d.year)][d.month - 1];
+        d.month++;
+    }
+    d.day = days + 1;
+    return d;
+}
+
+static uint32_t day_of(unsigned year, unsigned month, unsigned day)
+{
+    uint32_t days = day - 1;
+    unsigned y, m;
+
+    for (y = 2000; y < year; y++)
+        days += leap_year(y) ? 366 : 365;
+    for (m = 1; m < month; m++)
+        days += month_lengths[leap_year(year)][m - 1];
+    return days;
+}
+
+unsigned ref_minute_to_date(uint32_t minute, struct ref_date *date)
+{
+    if (minute >= MINUTES)
+        return 3;
+    *date = date_of(minute);
+    return 0;
+}
+
+unsigned ref_date_to_minute(const struct ref_date *d, uint32_t *minute)
+{
+    if (d->year < 2000 || d->year > 2099 || d->month < 1 || d->month > 12 || d->day < 1
+        || d->day > month_lengths[leap_year(d->year)][d->month - 1] || d->hour > 23 || d->minute > 59)
+        return 15;
+    *minute = day_of(d->year, d->month, d->day) * 1440 + d->hour * 60 + d->minute;
+    return 0;
+}
+
+int ref_last_of_month(uint32_t minute)
+{
+    struct ref_date d = date_of(minute);
+    return d.hour == 23 && d.minute == 59 && d.day == month_lengths[leap_year(d.year)][d.month - 1];
+}
+
+/* ---- the time word */
+
+/* The time bits of par[0] to par[4]. */
+static const unsigned char parity_bits[5][15] = {
+    {23, 21, 20, 17, 16, 15, 14, 13, 9, 8, 6, 5, 4, 2, 0},
+    {24, 22, 21, 18, 17, 16, 15, 14, 10, 9, 7, 6, 5, 3, 1},
+    {25, 23, 22, 19, 18, 17, 16, 15, 11, 10, 8, 7, 6, 4, 2},
+    {24, 21, 19, 18, 15, 14, 13, 12, 11, 7, 6, 4, 3, 2, 0},
+    {25, 22, 20, 19, 16, 15, 14, 13, 12, 8, 7, 5, 4, 3, 1},
+};
+
+/* par[4..0] then time[25..0], one bit a byte, as places 1 to 31 at word[0] to word[30]. */
+static void code_word(uint32_t minute, uint8_t word[31])
+{
+    int i, k;
+
+    for (i = 0; i < 5; i++) {
+        unsigned sum = 0;
+        for (k = 0; k < 15; k++)
+            sum += minute >> parity_bits[i][k] & 1;
+        word[4 - i] = sum % 2;
+    }
+    for (i = 0; i < 26; i++)
+        word[5 + i] = minute >> (25 - i) & 1;
+}
+
+static uint32_t time_of(const uint8_t word[31])
+{
+    uint32_t minute = 0;
+    int i;
+
+    for (i = 5; i < 31; i++)
+        minute = minute * 2 + word[i];
+    return minute;
+}
+
+/* The one code word that differs from the word in at most one place: the place, or 0; the word becomes that one. */
+static unsigned correct(uint8_t word[31])
+{
+    unsigned place;
+    uint8_t code[31];
+
+    for (place = 0; place <= 31; place++) {
+        if (place)
+            word[place - 1] ^= 1;
+        code_word(time_of(word), code);
+        if (memcmp(code, word, 31) == 0)
+            return place;
+        if (place)
+            word[place - 1] ^= 1;
+    }
+    return 99; /* no word is left without a code word beside it */
+}
+
+unsigned ref_bit_of_place(unsigned place)
+{
+    if (place <= 6)
+        return 12 + place; /* bits 13 to 18 */
+    if (place <= 15)
+        return 13 + place; /* bits 20 to 28 */
+    if (place <= 24)
+        return 14 + place; /* bits 30 to 38 */
+    return 15 + place;     /* bits 40 to 46 */
+}
+
+/* ---- the state word and the next-change word */
+
+/* By leap state (none, negative, positive) and by the number of dst_on[1] dst_on[0]: 00, 01, 10, 11. */
+static const char *const state_words[3][4] = {
+    {"01000", "10101", "10110", "00011"},
+    {"00100", "01110", "10000", "01101"},
+    {"11001", "11100", "11010", "11111"},
+};
+
+static const char *const next_words[52] = {
+    "",
+    "110001", "100110", "100101", "010101", "111110", "010110", "110111", "111101",
+    "101010", "011011", "001110", "000001", "000010", "001000", "001101", "101001",
+    "000100", "100000", "110100", "101100", "111000", "010000", "110010", "011100",
+    "110111", "010101", "110001", "010110", "100110", "111110", "100101", "111101",
+    "001101", "000001", "101010", "001000", "011011", "000010", "001110", "101001",
+    "110010", "101100", "000100", "010000", "100000", "111000", "110100", "011100",
+    "100011", "000111", "101111",
+};
+
+static int says(const uint8_t *bits, const char *word, size_t n)
+{
+    size_t i;
+
+    for (i = 0; i < n; i++)
+        if (bits[i] != word[i] - '0')
+            return 0;
+    return 1;
+}
+
+/* ---- plans */
+
+static int legal(const struct ref_plan *p)
+{
+    if (p->kind == 0) {
+        if (p->spring < 1 || p->spring > 24 || p->autumn < 25 || p->autumn > 48)
+            return 0;
+    } else if (p->kind > 2 || p->spring != 0 || p->autumn != 0) {
+        return 0;
+    }
+    if (p->leap_sign == 0) {
+        if (p->leap_month != 0)
+            return 0;
+    } else if ((p->leap_sign != 1 && p->leap_sign != -1) || p->leap_month > 1199) {
+        return 0;
+    }
+    return p->notice <= 1;
+}
+
+static uint32_t first_sunday(unsigned year, unsigned month)
+{
+    uint32_t day = day_of(year, month, 1);
+
+    while (day % 7 != 1)
+        day++;
+    return day;
+}
+
+/* dst_on[1] as a day has it: 1 from the spring day on, 0 from the autumn day on. */
+static unsigned on(const struct ref_plan *p, uint32_t day)
+{
+    unsigned year = date_of(day * 1440).year;
+    uint32_t begins = first_sunday(year, 3) + (p->spring - 1) % 8 * 7;
+    uint32_t ends = first_sunday(year, 11) + (p->autumn - 25) % 8 * 7 - 28;
+
+    return day >= begins && day < ends;
+}
+
+static unsigned daylight(const struct ref_plan *p, uint32_t minute)
+{
+    uint32_t day = minute / 1440;
+
+    if (p->kind != 0)
+        return p->kind == 1 ? 0 : 3;
+    return on(p, day) * 2 + (day == 0 ? 0 : on(p, day - 1));
+}
+
+static unsigned leap(const struct ref_plan *p, uint32_t minute)
+{
+    struct ref_date d = date_of(minute);
+
+    if (p->leap_sign == 0 || (d.year - 2000) * 12 + d.month - 1 != p->leap_month)
+        return 0;
+    return p->leap_sign < 0 ? 1 : 2;
+}
+
+static unsigned row(const struct ref_plan *p, unsigned state)
+{
+    if (p->kind != 0)
+        return p->kind == 1 ? 50 : 51;
+    return state < 2 ? p->spring : p->autumn;
+}
+
+static unsigned length_for(unsigned leap_state, uint32_t minute)
+{
+    if (leap_state == 0 || !ref_last_of_month(minute))
+        return 60;
+    return leap_state == 1 ? 59 : 61;
+}
+
+/* ---- writing */
+
+static void put(uint8_t *out, const char *word)
+{
+    for (; *word; word++)
+        *out++ = *word - '0';
+}
+
+static unsigned write_frame(const struct ref_plan *p, uint32_t minute, uint8_t *out)
+{
+    unsigned state = daylight(p, minute), leap_state = leap(p, minute), length = length_for(leap_state, minute), place;
+    const char *word = state_words[leap_state][state];
+    uint8_t frame[61] = {0}, code[31];
+
+    put(frame, SYNC);
+    code_word(minute, code);
+    for (place = 1; place <= 31; place++)
+        frame[ref_bit_of_place(place)] = code[place - 1];
+    frame[19] = minute & 1;
+    frame[47] = word[0] - '0';
+    frame[48] = word[1] - '0';
+    frame[49] = p->notice;
+    put(frame + 50, word + 2);
+    put(frame + 53, next_words[row(p, state)]);
+    memcpy(out, frame, length);
+    return length;
+}
+
+unsigned ref_write(const struct ref_plan *p, uint32_t first, uint32_t count, uint8_t *out, size_t space, size_t *bits)
+{
+    size_t needed = 0;
+    uint32_t i;
+
+    if (!legal(p))
+        return 1;
+    if (count < 1 || count > 1000)
+        return 2;
+    if ((uint64_t)first + count - 1 > MINUTES - 1)
+        return 3;
+    for (i = 0; i < count; i++)
+        needed += length_for(leap(p, first + i), first + i);
+    if (needed > space)
+        return 4;
+    for (i = 0; i < count; i++)
+        out += write_frame(p, first + i, out);
+    *bits = needed;
+    return 0;
+}
+
+/* ---- reading */
+
+/* Questions 6 to 13 of the frame at the front of the bits; alone: one frame and nothing behind it. */
+static unsigned read_one(const uint8_t *f, size_t length, int alone, uint8_t entry[12])
+{
+    unsigned i, state = 99, leap_state = 0, found = 0, place, seconds, echo;
+    uint8_t word[31], five[5];
+    uint32_t minute;
+
+    if (length < 59)
+        return 6;
+    for (i = 0; i < 59; i++)
+        if (f[i] > 1)
+            return 7;
+    if (!says(f, SYNC, 13))
+        return 8;
+    memcpy(five, f + 47, 2);
+    memcpy(five + 2, f + 50, 3);
+    for (i = 0; i < 12; i++)
+        if (says(five, state_words[i / 4][i % 4], 5)) {
+            leap_state = i / 4;
+            state = i % 4;
+        }
+    if (state == 99)
+        return 9;
+    for (i = 1; i <= 51; i++)
+        if ((i > 48 || (i > 24) == (state >= 2)) && says(f + 53, next_words[i], 6))
+            found = i;
+    if (!found)
+        return 10;
+    for (i = 1; i <= 31; i++)
+        word[i - 1] = f[ref_bit_of_place(i)];
+    place = correct(word);
+    minute = time_of(word);
+    if (minute >= MINUTES)
+        return 11;
+    echo = f[19] == (minute & 1);
+    if (place && !echo)
+        return 12;
+    seconds = length_for(leap_state, minute);
+    if (alone ? length != seconds : length < seconds)
+        return 13;
+    for (i = 59; i < seconds; i++)
+        if (f[i] != 0)
+            return 13;
+    entry[0] = minute >> 24;
+    entry[1] = minute >> 16 & 255;
+    entry[2] = minute >> 8 & 255;
+    entry[3] = minute & 255;
+    entry[4] = seconds;
+    entry[5] = state;
+    entry[6] = leap_state;
+    entry[7] = found;
+    entry[8] = f[49];
+    entry[9] = place;
+    entry[10] = echo;
+    entry[11] = 0;
+    return 0;
+}
+
+unsigned ref_read_frame(const uint8_t *bits, size_t length, uint8_t *entry, size_t space)
+{
+    uint8_t bytes[12];
+    unsigned refusal;
+
+    if (space < 12)
+        return 5;
+    refusal = read_one(bits, length, 1, bytes);
+    if (refusal == 0)
+        memcpy(entry, bytes, 12);
+    return refusal;
+}
+
+unsigned ref_read(const uint8_t *bits, size_t length, uint8_t *entries, size_t space, size_t *count, size_t *used)
+{
+    uint32_t due = 0;
+
+    *count = *used = 0;
+    while (*used < length) {
+        uint8_t bytes[12];
+        uint32_t minute;
+        unsigned refusal;
+
+        if (space - *count * 12 < 12)
+            return 5;
+        refusal = read_one(bits + *used, length - *used, 0, bytes);
+        if (refusal)
+            return refusal;
+        minute = (uint32_t)bytes[0] << 24 | (uint32_t)bytes[1] << 16 | (uint32_t)bytes[2] << 8 | bytes[3];
+        if (*count && minute != due)
+            return 14;
+        memcpy(entries + *count * 12, bytes, 12);
+        due = minute + 1;
+        *used += bytes[4];
+        ++*count;
+    }
+    return 0;
+}

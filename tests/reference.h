@@ -1,0 +1,35 @@
+/*
+ * The WWVB phase code in plain C, written from document 01 alone and for reading, not for speed: its own tables, its
+ * own calendar, and correction by trying the 32 candidates. It shares nothing with the library but document 01.
+ */
+#ifndef REFERENCE_H
+#define REFERENCE_H
+
+#include <stddef.h>
+#include <stdint.h>
+
+struct ref_plan {
+    uint32_t kind, spring, autumn, leap_month;
+    int32_t leap_sign;
+    uint32_t notice;
+};
+
+struct ref_date {
+    uint32_t year, month, day, hour, minute, weekday;
+};
+
+/* Each gives the number of the question that got a no, or 0; what is pointed to is written only with 0, but for the
+   entries, bits and buffer of a recording's reading, which are those of the frames before the refused one. */
+unsigned ref_minute_to_date(uint32_t minute, struct ref_date *date);
+unsigned ref_date_to_minute(const struct ref_date *date, uint32_t *minute);
+unsigned ref_write(const struct ref_plan *plan, uint32_t first, uint32_t count, uint8_t *out, size_t space, size_t *bits);
+unsigned ref_read_frame(const uint8_t *bits, size_t length, uint8_t *entry, size_t space);
+unsigned ref_read(const uint8_t *bits, size_t length, uint8_t *entries, size_t space, size_t *count, size_t *used);
+
+/* The number of the bit of a frame at a place, 1 to 31, of its time word. */
+unsigned ref_bit_of_place(unsigned place);
+
+/* 1 where the minute is the last of its month. */
+int ref_last_of_month(uint32_t minute);
+
+#endif
