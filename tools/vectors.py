@@ -1,0 +1,508 @@
+#!/usr/bin/env python3
+"""What the program `vectors` has to write: a model of the WWVB phase code by itself, from document 01 and the tables of
+NIST's Enhanced WWVB Broadcast Format (Revision 1.0), in the plainest form and with Python's own calendar. It shares no
+code with the crates.
+
+usage: tools/vectors.py            prints the lines
+       tools/vectors.py --write    writes them to crates/vectors/stdout
+"""
+import datetime
+import pathlib
+import sys
+
+LAST = 52_595_999
+SYNC = "0011101101000"                         # Table 3, sync_T
+
+# Table 4, by leap state and then by dst_on[1] dst_on[0]
+STATE_WORDS = {
+    0: {"00": "01000", "10": "10110", "11": "00011", "01": "10101"},
+    1: {"00": "00100", "10": "10000", "11": "01101", "01": "01110"},
+    2: {"00": "11001", "10": "11010", "11": "11111", "01": "11100"},
+}
+
+# Table 8: rows 1 to 24 with dst_on[1] 0, 25 to 48 with 1, 49 to 51 with either
+ROWS = """
+110001 100110 100101 010101 111110 010110 110111 111101
+101010 011011 001110 000001 000010 001000 001101 101001
+000100 100000 110100 101100 111000 010000 110010 011100
+110111 010101 110001 010110 100110 111110 100101 111101
+001101 000001 101010 001000 011011 000010 001110 101001
+110010 101100 000100 010000 100000 111000 110100 011100
+100011 000111 101111
+""".split()
+RESERVED = {"110000": 1, "100100": 2, "010100": 3, "110110": 4, "110101": 5}
+
+# Section 4.3
+PARITY = [
+    [23, 21, 20, 17, 16, 15, 14, 13, 9, 8, 6, 5, 4, 2, 0],
+    [24, 22, 21, 18, 17, 16, 15, 14, 10, 9, 7, 6, 5, 3, 1],
+    [25, 23, 22, 19, 18, 17, 16, 15, 11, 10, 8, 7, 6, 4, 2],
+    [24, 21, 19, 18, 15, 14, 13, 12, 11, 7, 6, 4, 3, 2, 0],
+    [25, 22, 20, 19, 16, 15, 14, 13, 12, 8, 7, 5, 4, 3, 1],
+]
+
+PLACE_BITS = [*range(13, 19), *range(20, 29), *range(30, 39), *range(40, 47)]
+
+# Table 10, bits 0 to 59 in rows of ten; bits 50 to 59 by its text
+TABLE_10 = "0011101101" "0001001000" "0011001000" "0110001101" "0011010001" "0110110110"
+
+START = datetime.datetime(2000, 1, 1)
+
+
+def minute_of(*date):
+    """The minute of a real date."""
+    return int((datetime.datetime(*date) - START).total_seconds()) // 60
+
+
+def date_of(minute):
+    return START + datetime.timedelta(minutes=minute)
+
+
+def first_sunday(year, month):
+    return next(d for d in range(1, 8) if datetime.date(year, month, d).isoweekday() == 7)
+
+
+def change_minute(row, year):
+    """00:00 UTC of the row's change day."""
+    k = (row - 1) % 8
+    if row <= 24:
+        return minute_of(year, 3, first_sunday(year, 3)) + k * 7 * 1440
+    return minute_of(year, 11, first_sunday(year, 11)) + (k - 4) * 7 * 1440
+
+
+def month_of(minute):
+    d = date_of(minute)
+    return (d.year - 2000) * 12 + d.month - 1
+
+
+def is_month_end(minute):
+    return date_of(minute).month != date_of(minute + 1).month
+
+
+# ---- sending
+
+def legal(plan):
+    kind, spring, autumn, month, sign, notice = plan
+    rows = 1 <= spring <= 24 and 25 <= autumn <= 48 if kind == 0 else kind in (1, 2) and spring == autumn == 0
+    leap = month == 0 if sign == 0 else sign in (1, -1) and month <= 1199
+    return rows and leap and notice in (0, 1)
+
+
+def facts(plan, minute):
+    """Length, dst_on[1] dst_on[0], leap state, row."""
+    kind, spring, autumn, month, sign, _ = plan
+    if kind == 1:
+        dst, row = "00", 50
+    elif kind == 2:
+        dst, row = "11", 51
+    else:
+        year = date_of(minute).year
+        on = lambda t: change_minute(spring, year) <= t < change_minute(autumn, year)
+        dst = f"{on(minute):d}{on(minute - 1440):d}"
+        row = autumn if dst[0] == "1" else spring
+    leap = {0: 0, -1: 1, 1: 2}[sign] if month_of(minute) == month else 0
+    length = {0: 60, 1: 59, 2: 61}[leap] if is_month_end(minute) else 60
+    return length, dst, leap, row
+
+
+def code_word(minute):
+    t = f"{minute:026b}"
+    par = [sum(minute >> k & 1 for k in p) % 2 for p in PARITY]
+    return "".join(str(b) for b in reversed(par)) + t
+
+
+def frame(plan, minute):
+    length, dst, leap, row = facts(plan, minute)
+    bits = [0] * length
+    bits[0:13] = map(int, SYNC)
+    for at, b in zip(PLACE_BITS, code_word(minute)):
+        bits[at] = int(b)
+    bits[19] = minute % 2
+    state = STATE_WORDS[leap][dst]
+    for at, b in zip((47, 48, 50, 51, 52), state):
+        bits[at] = int(b)
+    bits[49] = plan[5]
+    bits[53:59] = map(int, ROWS[row - 1])
+    return bits
+
+
+def write(plan, first, count, space):
+    """The refusal or 0, and the bits."""
+    if not legal(plan):
+        return 1, []
+    if not 1 <= count <= 1000:
+        return 2, []
+    if first + count - 1 > LAST:
+        return 3, []
+    bits = [b for m in range(first, first + count) for b in frame(plan, m)]
+    return (0, bits) if len(bits) <= space else (4, [])
+
+
+# ---- reading
+
+def nearest(word):
+    """The minute of the one code word at most one place away, and the place or 0."""
+    for place in range(32):
+        w = [b ^ (i == place) for i, b in enumerate(word, 1)]
+        minute = int("".join(map(str, w[5:])), 2)
+        if "".join(map(str, w)) == code_word(minute):
+            return minute, place
+
+
+def read_frame(bits, alone):
+    """The refusal, or 0 and the entry; the bits are those left."""
+    if len(bits) < 59:
+        return 6, None
+    if any(b > 1 for b in bits[:59]):
+        return 7, None
+    text = "".join(map(str, bits[:59]))
+    if text[:13] != SYNC:
+        return 8, None
+    word = text[47:49] + text[50:53]
+    state = [(leap, dst) for leap, row in STATE_WORDS.items() for dst, w in row.items() if w == word]
+    if not state:
+        return 9, None
+    leap, dst = state[0]
+    rows = [n for n, w in enumerate(ROWS, 1) if w == text[53:59] and (n > 48 or (n > 24) == (dst[0] == "1"))]
+    if not rows:
+        return 10, None
+    minute, place = nearest([bits[at] for at in PLACE_BITS])
+    if minute > LAST:
+        return 11, None
+    echo = bits[19] == minute % 2
+    if place and not echo:
+        return 12, None
+    length = {0: 60, 1: 59, 2: 61}[leap] if is_month_end(minute) else 60
+    if len(bits) < length or alone and len(bits) != length or any(bits[59:length]):
+        return 13, None
+    return 0, [*minute.to_bytes(4, "big"), length, int(dst, 2), leap, rows[0], bits[49], place, int(echo), 0]
+
+
+def read_one(bits, buffer, space):
+    """The refusal or 0, and the buffer, of which so many bytes are lent."""
+    if space < 12:
+        return 5, buffer
+    refusal, entry = read_frame(bits, True)
+    return refusal, buffer if refusal else entry + buffer[12:]
+
+
+def read_recording(bits, buffer, space):
+    """Entries, bits used, the refusal or 0, and the buffer."""
+    entries, used, due = [], 0, None
+    end = lambda r: (len(entries), used, r, [b for e in entries for b in e] + buffer[12 * len(entries):])
+    while used < len(bits):
+        if space - 12 * len(entries) < 12:
+            return end(5)
+        refusal, entry = read_frame(bits[used:], False)
+        if refusal:
+            return end(refusal)
+        minute = int.from_bytes(bytes(entry[:4]), "big")
+        if due not in (None, minute):
+            return end(14)
+        entries.append(entry)
+        used += entry[4]
+        due = minute + 1
+    return end(0)
+
+
+# ---- lines
+
+LINES = []
+USUAL = (0, 10, 37, 0, 0, 0)
+LONG = (0, 10, 37, 149, 1, 0)
+SHORT = (0, 10, 37, 149, -1, 0)
+JULY_4 = 6_578_970
+
+
+def line(*parts):
+    LINES.append(" ".join(str(p) for p in parts))
+
+
+def one(label, bits, n, space):
+    refusal, buffer = read_one(bits[:n], [7] * 14, space)
+    line(label + ":", refusal, "|", *buffer)
+
+
+def recording(label, bits, n, space):
+    count, used, refusal, buffer = read_recording(bits[:n], [7] * 38, space)
+    line(label + ":", count, used, refusal, "|", *buffer)
+
+
+def digits(bits):
+    return "".join(map(str, bits))
+
+
+def plan_text(plan):
+    return "plan " + " ".join(map(str, plan))
+
+
+def example(*changes):
+    bits = [int(b) for b in TABLE_10]
+    for at, word in changes:
+        for k, b in zip(at, word):
+            bits[k] = int(b)
+    return bits
+
+
+STATE_AT = (47, 48, 50, 51, 52)
+NEXT_AT = range(53, 59)
+
+
+def inverted(bits, *places):
+    return [b ^ (k in places) for k, b in enumerate(bits)]
+
+
+def table_10(a, b):
+    one(f"Table 10, inverted {a} {b}", inverted(example(), a, b), 60, 12)
+
+
+def zero(a, b):
+    one(f"minute 0, inverted {a} {b}", inverted(frame(USUAL, 0), a, b), 60, 12)
+
+
+def date(minute):
+    if minute > LAST:
+        return line(f"minute {minute}: 3")
+    d = date_of(minute)
+    weekday = (d.isoweekday() + 1) % 7               # Saturday is 0
+    line(f"minute {minute}: 0", d.year, d.month, d.day, d.hour, d.minute, weekday, 0, minute)
+
+
+def minute(*numbers):
+    label = "date " + " ".join(map(str, numbers)) + ":"
+    try:
+        d = datetime.datetime(*numbers)
+        real = 2000 <= d.year <= 2099
+    except (ValueError, OverflowError):
+        real = False
+    line(label, *((0, minute_of(*numbers)) if real else (15,)))
+
+
+def around(m):
+    date(m)
+    date(m + 1)
+
+
+def sent(plan, m):
+    bits = frame(plan, m)
+    one(f"{plan_text(plan)} sends {m} {digits(bits)}", bits, len(bits), 12)
+
+
+def minute_facts(plan, m):
+    return f" {m} {' '.join(map(str, facts(plan, m)))},"
+
+
+def change(row, year):
+    plan = (0, row, 37, 0, 0, 0) if row <= 24 else (0, 10, row, 0, 0, 0)
+    t = change_minute(row, year)
+    line(f"row {row} changes:" + "".join(minute_facts(plan, m) for m in (t - 1, t, t + 1439, t + 1440)))
+
+
+def month_end(month, sign):
+    last = minute_of(2000 + (month + 1) // 12, (month + 1) % 12 + 1, 1) - 1
+    plan = (1, 0, 0, month, sign, 0)
+    line(f"leap month {month} {sign}:" + "".join(minute_facts(plan, m) for m in (last - 1, last, last + 1)))
+    return last
+
+
+def written(plan, first, count, space):
+    refusal, bits = write(plan, first, count, space)
+    out = bits + [7] * (124 - len(bits))
+    line(f"{plan_text(plan)} writes {first} {count} in {space}:", refusal, len(bits), digits(out))
+
+
+def carried(plan, first, count):
+    bits = write(plan, first, count, 183)[1]
+    recording(f"{plan_text(plan)} sends {first} {count}", bits, len(bits), 36)
+
+
+def long(plan, first, count):
+    bits = write(plan, first, count, 65536)[1]
+    n, used, refusal, _ = read_recording(bits, [0] * 12000, 12000)
+    line(f"{plan_text(plan)} sends {first} {count} {len(bits)}:", n, used, refusal)
+
+
+def edited(plan, m, at, value, n):
+    bits = frame(plan, m)
+    bits += [0] * (64 - len(bits))
+    bits[at] = value
+    one(f"{plan_text(plan)} sends {m} with byte {at} at {value}, bytes {n}", bits, n, 12)
+    recording("the same, as a recording", bits, n, 36)
+
+
+def joined(plan, m, other, k):
+    recording(f"{plan_text(plan)} sends {m}, then {plan_text(other)} {k}", frame(plan, m) + frame(other, k), 120, 36)
+
+
+def damaged(bits, question):
+    """A frame of 60 bits in which the question, 7 to 13, gets a no."""
+    bits = list(bits)
+    if question == 7:
+        bits[29] = 2
+    elif question == 8:
+        bits[12] ^= 1
+    elif question == 9:
+        for at, b in zip(STATE_AT, "00010"):
+            bits[at] = int(b)
+    elif question == 10:
+        bits[53:59] = [0] * 6
+    elif question == 11:
+        for at, b in zip(PLACE_BITS, code_word(LAST + 1)):
+            bits[at] = int(b)
+        bits[19] = (LAST + 1) % 2
+        bits[29] = bits[39] = 0
+    elif question == 12:
+        bits[45] ^= 1
+        bits[46] ^= 1
+    elif question == 13:
+        bits[59] = 1
+    else:
+        bits[39] = 1
+    return bits
+
+
+def first(question, also, n, space):
+    bits = damaged(damaged(frame(USUAL, JULY_4), question), also)
+    label = f" no to {question} {also}, bytes {n} space {space}"
+    one("one frame," + label, bits, n, space)
+    recording("first frame," + label, bits, n, space)
+
+
+def third(question, also, m, n, space):
+    last = damaged(damaged(frame(USUAL, m), question), also)
+    bits = frame(USUAL, JULY_4) + frame(USUAL, JULY_4 + 1) + last
+    recording(f"third frame, no to {question} {also}, bytes {n} space {space}", bits, n, space)
+
+
+def tables():
+    for pair in ((99, 99), (29, 99), (39, 99), (29, 39), (19, 99)):
+        table_10(*pair)
+    for m in (0, 1, 84_960, JULY_4, 8_717_609, 8_717_610, LAST, LAST + 1, 2**32 - 1):
+        date(m)
+    for m in (0, 1, JULY_4, 6_412_319, 6_412_320, 6_413_760, 6_755_039, 6_755_040, 6_756_480):
+        sent(USUAL, m)
+    sent(LONG, 6_573_600)
+    sent(SHORT, 6_573_600)
+    for pair in ((99, 99), (46, 99), (46, 45), (45, 44), (19, 99)):
+        zero(*pair)
+    for w in range(32):
+        word = f"{w:05b}"
+        one(f"state word {word[:2]} {word[2:]}", example((STATE_AT, word), (NEXT_AT, "100011")), 60, 12)
+    for state in ("01000", "00011"):
+        for w in range(64):
+            word = f"{w:06b}"
+            name = f" (reserved {RESERVED[word]})" if word in RESERVED else ""
+            label = f"next-change word {word}{name} in state {state[:2]} {state[2:]}"
+            one(label, example((STATE_AT, state), (NEXT_AT, word)), 60, 12)
+    for bit in PLACE_BITS:
+        table_10(bit, 99)
+        table_10(bit, 19)
+
+
+def calendar_lines():
+    for row in range(1, 49):
+        change(row, 2015)
+        change(row, 2012)
+    for year in (2000, 2009, 2010, 2026, 2044, 2099):
+        change(10, year)
+        change(37, year)
+    for month in range(132, 156):
+        month_end(month, 1)
+        around(month_end(month, -1))
+    for month, sign in ((0, 1), (0, -1), (1, 1), (1, -1), (1198, 1)):
+        month_end(month, sign)
+    for d in ((2000, 2, 1), (2000, 2, 29), (2000, 3, 1), (2099, 12, 1)):
+        around(minute_of(*d) - 1)
+    around(LAST)
+    sent((0, 10, 37, 1199, 1, 0), LAST)
+    sent((0, 10, 37, 1199, -1, 0), LAST)
+    sent((0, 10, 37, 0, 1, 0), 0)
+    for row in range(1, 25):
+        for d in ((2012, 1, 1), (2012, 7, 4, 17, 30)):
+            sent((0, row, row + 24, 0, 0, 0), minute_of(*d))
+    for d in ((2000, 1, 1, 0, 0), (2000, 2, 29, 0, 0), (2012, 7, 4, 17, 30), (2016, 7, 28, 21, 30),
+              (2011, 2, 28, 23, 59), (2012, 2, 29, 23, 59), (2096, 2, 29, 12, 0), (2099, 12, 31, 23, 59)):
+        minute(*d)
+    for d in ((1999, 12, 31, 23, 59), (2100, 1, 1, 0, 0), (2012, 0, 1, 0, 0), (2012, 13, 1, 0, 0), (2012, 7, 0, 0, 0),
+              (2012, 7, 32, 0, 0), (2012, 6, 31, 0, 0), (2011, 2, 29, 0, 0), (2012, 2, 30, 0, 0), (2099, 2, 29, 0, 0),
+              (2012, 7, 4, 24, 0), (2012, 7, 4, 17, 60), (2**32 - 1,) * 5):
+        minute(*d)
+
+
+def writings():
+    for plan in ((3, 0, 0, 0, 0, 0), (0, 0, 37, 0, 0, 0), (0, 25, 37, 0, 0, 0), (0, 10, 24, 0, 0, 0), (0, 10, 49, 0, 0, 0),
+                 (1, 10, 0, 0, 0, 0), (1, 0, 37, 0, 0, 0), (2, 0, 37, 0, 0, 0), (0, 10, 37, 1200, 1, 0),
+                 (0, 10, 37, 1200, -1, 0), (0, 10, 37, 1, 0, 0), (0, 10, 37, 0, 2, 0), (0, 10, 37, 0, -2, 0),
+                 (0, 10, 37, 0, 0, 2)):
+        written(plan, 0, 1, 60)
+    for numbers in ((0, 0, 60), (0, 1001, 124), (0, 2**32 - 1, 124), (LAST, 2, 124), (LAST + 1, 1, 60), (2**32 - 1, 1, 60),
+                    (2**32 - 1, 1000, 60), (JULY_4, 1, 59), (JULY_4, 2, 119), (JULY_4, 1, 0)):
+        written(USUAL, *numbers)
+    written((3, 0, 0, 0, 0, 0), 0, 0, 60)
+    written(USUAL, LAST + 1, 0, 60)
+    written(USUAL, LAST + 1, 1, 0)
+    written(USUAL, JULY_4, 1, 60)
+    written(USUAL, JULY_4, 2, 124)
+    written(USUAL, LAST - 1, 2, 120)
+    for plan, space in ((LONG, 60), (LONG, 61), (SHORT, 58), (SHORT, 59)):
+        written(plan, 6_573_599, 1, space)
+    for plan in (USUAL, LONG, SHORT):
+        long(plan, 6_573_100, 1000)
+    for sign in (0, -1, 1):
+        for m, month, notice in ((6_311_520, 144, 0), (6_412_320, 146, 0), (JULY_4, 150, 1), (6_755_040, 154, 1)):
+            sent((0, 10, 37, month if sign else 0, sign, notice), m)
+    for plan in ((1, 0, 0, 0, 0, 0), (2, 0, 0, 0, 0, 0), (1, 0, 0, 150, 1, 1), (2, 0, 0, 150, -1, 1)):
+        sent(plan, JULY_4)
+    sent(LONG, 6_573_599)
+    sent(SHORT, 6_573_599)
+    for plan in (USUAL, LONG, SHORT):
+        carried(plan, 6_573_598, 3)
+    for plan, at, value, n in ((LONG, 60, 1, 61), (LONG, 59, 1, 61), (LONG, 60, 0, 60), (LONG, 61, 0, 62), (SHORT, 59, 1, 59),
+                               (SHORT, 59, 0, 60), (SHORT, 59, 0, 58)):
+        edited(plan, 6_573_599, at, value, n)
+    for at, value, n in ((29, 1, 60), (39, 1, 60), (29, 2, 60), (39, 2, 60), (58, 255, 60), (59, 1, 60), (59, 2, 60), (60, 0, 59),
+                         (60, 0, 61), (60, 1, 61)):
+        edited(USUAL, JULY_4, at, value, n)
+    whole = (2, 0, 0, 0, 0, 1)
+    joined(USUAL, JULY_4, whole, JULY_4 + 1)
+    joined(USUAL, JULY_4, whole, JULY_4)
+    joined(USUAL, LAST, USUAL, 0)
+
+
+def refused_readings():
+    handed = lambda q, n, space: (n - 2 if q == 6 else n, space - 1 if q == 5 else space)
+    for q in range(5, 14):
+        first(q, 0, *handed(q, 60, 12))
+    for q in range(5, 13):
+        first(q, q + 1, 58 if q < 7 else 60, 11 if q == 5 else 12)
+    for q in range(5, 14):
+        third(q, 0, JULY_4 + 2, *handed(q, 180, 36))
+    third(14, 0, JULY_4 + 3, 180, 36)
+    third(14, 0, JULY_4 + 1, 180, 36)
+    for q in range(5, 13):
+        third(q, q + 1, JULY_4 + 2, 178 if q < 7 else 180, 35 if q == 5 else 36)
+    third(13, 14, JULY_4 + 3, 180, 36)
+    for n, space in ((180, 36), (120, 24), (121, 24), (121, 36), (179, 36)):
+        third(0, 0, JULY_4 + 2, n, space)
+    one("no bits, one frame", [], 0, 12)
+    one("no bits and no space, one frame", [], 0, 0)
+    recording("no bits", [], 0, 38)
+    recording("no bits and no space", [], 0, 0)
+    recording("one bit", [0], 1, 12)
+    recording("one bit and no space", [0], 1, 11)
+
+
+def main():
+    tables()
+    calendar_lines()
+    writings()
+    refused_readings()
+    text = "\n".join(LINES) + "\n"
+    if sys.argv[1:] == ["--write"]:
+        path = pathlib.Path(__file__).resolve().parent.parent / "crates" / "vectors" / "stdout"
+        path.write_text(text)
+    else:
+        sys.stdout.write(text)
+
+
+main()
