@@ -134,7 +134,7 @@ month-minutes k t h = (to, from)
     from s = let l = next-later k h in month-of k t h (omega arith) (omega arith)
 
 -- the last minute of a month is the one that equals the last minute of its month
-last-is : (t : ℕ) → (lastOfMonth t ≡ true) ↔ ((t < minuteCount) × (t ≡ lastMinute (monthIndex t)))
+pub last-is : (t : ℕ) → (lastOfMonth t ≡ true) ↔ ((t < minuteCount) × (t ≡ lastMinute (monthIndex t)))
 unfolding lastOfMonth
 last-is t = (to, from)
   where
