@@ -9,12 +9,13 @@ use native.Mathlib.Numerals.{add-one}
 use native.Mathlib.Omega.{arith}
 use lib.Dec.{eqb}
 use lib.ListN.{length, getD, set}
+use lib.Seq.{ext-getD}
 use borrow.Author.Tests.{eqb-true, not-true, eq-eqb, ne-eqb, le-leb}
 use Rattle.bits.specs.Bits.{pick, isBit, all}
 use Rattle.bits.proofs.Tests.{and-true, head-true, tail-true, is-true, upto-at}
 use Rattle.timeword.specs.TimeWord.{invert, codeWord, reading}
 use Rattle.timeword.proofs.Correct.{correct, received-codeWord}
-use Rattle.frame.specs.Inverting.{flip, invertAt, from, timeNumbers, framePlaces, inverted, InvertsOneBit}
+use Rattle.frame.specs.Inverting.{flip, invertAt, from, timeNumbers, framePlaces, EqualFrames, inverted, InvertsOneBit}
 
 untouched : (i k : ℕ) (w : List ℕ) → i ≤ k → invertAt i (from (suc k) (length w)) w ≡ w
 unfolding invertAt from flip
@@ -62,6 +63,10 @@ unfolding invertAt
 length-invert i [] l = refl
 length-invert i (p ∷ ps) [] = refl
 length-invert i (p ∷ ps) (b ∷ l) = ap suc (length-invert i ps l)
+
+-- equal frames are one list
+pub equal-frames : (f g : List ℕ) → EqualFrames f g → f ≡ g
+equal-frames f g e = ext-getD 0 f g (e .same-length) (e .same-bits)
 
 -- ---- the bit that a place inverts
 

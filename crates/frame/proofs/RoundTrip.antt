@@ -24,12 +24,7 @@ use Rattle.frame.proofs.Sending.{bodyOf-binary}
 use Rattle.frame.proofs.Inverting.{read-inverted, bits-invert}
 use Rattle.frame.proofs.Questions.{yes-9, yes-13}
 
--- the time word of a frame as sent
-pub word-sent : (s : Sent) → wordIn (frame s) ≡ codeWord (s .minute)
-unfolding wordIn frame bodyOf body sync codeWord parities bits
-word-sent s = refl
-
--- its time-word bits, by their numbers
+-- the time-word bits of a frame as sent, by their numbers
 pub time-bits-sent : (s : Sent) → timeBits (frame s) ≡ codeWord (s .minute)
 unfolding timeBits timeNumbers from frame bodyOf body sync codeWord parities bits
 time-bits-sent s = refl

@@ -6,16 +6,15 @@ use mathlib.Core.Path.{_≡_, refl, sym, ap, _∙_}
 use native.Mathlib.Nat.{not-suc-le-zero, add-zero, add-suc, suc-add}
 use native.Mathlib.Omega.{arith}
 use lib.ListN.{length, getD}
-use lib.Seq.{ext-getD}
 use borrow.Author.Tests.{leb-true}
 use Rattle.bits.proofs.Tests.{all-at}
 use Rattle.timeword.specs.TimeWord.{codeWord, reading}
 use Rattle.timeword.proofs.Distance.{distance-3}
 use Rattle.plan.specs.declared.Plan.{Plan}
 use Rattle.frame.specs.Frame.{Sent, sentBy, frame, wordIn}
-use Rattle.frame.specs.Inverting.{timeBits, EqualFrames, inverted}
+use Rattle.frame.specs.Inverting.{timeBits, inverted}
 use Rattle.frame.proofs.RoundTrip.{received-is, word-received, time-bits-sent}
-use Rattle.frame.proofs.Inverting.{read-inverted}
+use Rattle.frame.proofs.Inverting.{read-inverted, equal-frames}
 use Rattle.recording.specs.Writing.{frames}
 use Rattle.recording.specs.Demand.{atRank, isPlace, invertEach, Sending, Demand3}
 use Rattle.recording.proofs.RoundTrip.{read-as-sent}
@@ -51,10 +50,6 @@ read-at p m n is buffer s k h =
     let minute : x .minute ≡ m + k = minute-sent p (m + k) in
     rw (← s .one-each, inverted-at is p m k (omega arith), received-is x i [], word-received x i [], read-inverted (x .minute) i (omega arith) place) minute
 
--- equal frames are one list
-same-list : (f g : List ℕ) → EqualFrames f g → f ≡ g
-same-list f g e = ext-getD 0 f g (e .same-length) (e .same-bits)
-
 pub demand-3 : Demand3
 demand-3 p q a b n is js buffer buffer′ s t ne =
     record {
@@ -63,7 +58,7 @@ demand-3 p q a b n is js buffer buffer′ s t ne =
           ne
           (omega (
             arith,
-            sym (read-at p a n is buffer s k h) ∙ ap (λ (f : List ℕ). reading (wordIn (f ++ [])) .minute) (same-list _ _ same) ∙ read-at q b n js buffer′ t k h,
+            sym (read-at p a n is buffer s k h) ∙ ap (λ (f : List ℕ). reading (wordIn (f ++ [])) .minute) (equal-frames _ _ same) ∙ read-at q b n js buffer′ t k h,
           ));
       first-read = read-as-sent p a n is buffer s;
       second-read = read-as-sent q b n js buffer′ t;
