@@ -1,0 +1,30 @@
+/* The header alone, as C99 and as C++, with the sizes that its structs have in the library. */
+#include "wwvb.h"
+
+#include "wwvb.h"
+
+typedef char date_size[sizeof(wwvb_date_reply) == 28 ? 1 : -1];
+typedef char minute_size[sizeof(wwvb_minute_reply) == 8 ? 1 : -1];
+typedef char write_size[sizeof(wwvb_write_reply) == 16 ? 1 : -1];
+typedef char read_size[sizeof(wwvb_read_reply) == 24 ? 1 : -1];
+typedef char recording_size[WWVB_MAX_RECORDING == WWVB_MAX_COUNT * 60 + 1 ? 1 : -1];
+
+int main(void)
+{
+    uint8_t bits[WWVB_MAX_FRAME], entry[WWVB_ENTRY_SIZE];
+    wwvb_write_reply w = wwvb_write_recording(1, 0, 0, 0, 0, 0, 0, 1, bits, sizeof bits);
+    date_size a;
+    minute_size b;
+    write_size c;
+    read_size d;
+    recording_size e;
+
+    a[0] = b[0] = c[0] = d[0] = e[0] = 0;
+    if (w.refusal != WWVB_OK || wwvb_read_frame(bits, w.bits, entry, sizeof entry) != WWVB_OK)
+        return 1;
+    if (wwvb_read_recording(NULL, 0, NULL, 0).refusal != WWVB_OK || wwvb_read_frame(NULL, 0, NULL, 0) != WWVB_NO_ENTRY_SPACE)
+        return 1;
+    if (wwvb_write_recording(1, 0, 0, 0, 0, 0, 0, 1, NULL, 0).refusal != WWVB_NO_BIT_SPACE)
+        return 1;
+    return a[0] + b[0] + c[0] + d[0] + e[0];
+}
