@@ -3,3 +3,4 @@ pub mod Entry
 pub mod Inverting
 pub mod Reading
 pub mod Answer
+pub mod Sending
