@@ -4,3 +4,4 @@ pub mod Inverting
 pub mod Reading
 pub mod Answer
 pub mod Refusals
+pub mod Sending

@@ -6,11 +6,12 @@ ghost use Prim.Native.Nat.{_+_, _-_, _*_, _/_, _%_, _^_, _≤_, _<_};
 ghost use lib.ListN.{length, take, drop, getD};
 ghost use Rattle.bits.specs.Bits.{bits, number, pick, isZero, all};
 ghost use lib.Dec.{eqb};
-ghost use Rattle.calendar.specs.Calendar.{minuteCount, lastOfMonth};
+ghost use Rattle.calendar.specs.Calendar.{dayCount, minuteCount, lastOfMonth};
 ghost use Rattle.timeword.specs.TimeWord.{codeWord};
 ghost use Rattle.codewords.specs.CodeWords.{leapNumber, stateNumber, stateOf, stateWords};
 ghost use Rattle.plan.specs.Plan.{legalPlan, lengthAt};
 ghost use Rattle.frame.specs.Frame.{sentBy, body, bodyOf, frame, wordIn, stateIn, nextIn};
+ghost use Rattle.frame.specs.Sending.{timePart, dayPart, dayWord};
 ghost use Rattle.frame.specs.Entry.{entryBytes};
 ghost use Rattle.frame.specs.Reading.{secondsFor, enough, entryOf, askFields, readFrame, readOne};
 ghost use Rattle.frame.specs.Answer.{refusalNumber, entryFrom, frameNumbers, endNumber, endOutcome};
@@ -101,31 +102,45 @@ const BODY: usize = 59;
 
 // ---- writing
 
-// Bits 0 to 58 of a frame, as a number, from its time word, echo, state word, notice and next-change word.
-fn body_word(time: u64, echo: u64, state: u64, notice: u64, next: u64) -> u64
-    requires { ⌜ («time» < 2 ^ 31) × (echo < 2) × (state < 32) × (notice < 2) × (next < 64) ⌝ }
-    ensures { λ r. ⌜ r ≡ number (body (bits 31 «time») echo (bits 5 state) notice (bits 6 next)) ⌝ }
+// Bits 0 to 46 of a frame, as a number, from its time word and echo.
+fn time_part(time: u64, echo: u64) -> u64
+    requires { ⌜ («time» < 2 ^ 31) × (echo < 2) ⌝ }
+    ensures { λ r. ⌜ r ≡ number (timePart (bits 31 «time») echo) ⌝ }
 {
     let a = (SYNC * 64 + time / 0x200_0000) * 2 + echo;
     let b = a * 512 + time / 0x1_0000 % 512;
     let c = b * 1024 + time / 128 % 512;
-    let d = c * 256 + time % 128;
-    let e = (d * 4 + state / 8) * 2 + notice;
-    (e * 8 + state % 8) * 64 + next
+    c * 256 + time % 128
 }
 
-// Writes the frame of a minute to the front of out; gives its length.
-pub fn write_frame(plan: Plan, minute: u32, out: &mut [u8]) -> usize
-    requires { ⌜ (legalPlan plan ≡ true) × («minute» < minuteCount) × (lengthAt plan «minute» ≤ length (now out)) ⌝ }
+// Bits 47 to 58 of a frame, as a number, from its state word, notice and next-change word.
+fn day_part(state: u64, notice: u64, next: u64) -> u64
+    requires { ⌜ (state < 32) × (notice < 2) × (next < 64) ⌝ }
+    ensures { λ r. ⌜ r ≡ number (dayPart (bits 5 state) notice (bits 6 next)) ⌝ }
+{
+    ((state / 8 * 2 + notice) * 8 + state % 8) * 64 + next
+}
+
+// Bits 47 to 58 of the frames of a day, as a number.
+pub fn day_word(plan: Plan, day: u32) -> u64
+    requires { ⌜ (legalPlan plan ≡ true) × (day < dayCount) ⌝ }
+    ensures { λ r. ⌜ r ≡ dayWord plan day ⌝ }
+{
+    let state = plan.state(day * 1440);
+    let daylight = state.daylight;
+    let next = codewords::next_word(plan.row_for(daylight)) as u64;
+    let state = codewords::state_word(state) as u64;
+    day_part(state, plan.notice as u64, next)
+}
+
+// Writes the frame of a minute to the front of out, from the bits of its day; gives its length.
+pub fn write_frame(plan: Plan, minute: u32, day: u64, out: &mut [u8]) -> usize
+    requires { ⌜ (legalPlan plan ≡ true) × («minute» < minuteCount) × (day ≡ dayWord plan («minute» / 1440)) × (lengthAt plan «minute» ≤ length (now out)) ⌝ }
     ensures { λ r. ⌜ (r ≡ lengthAt plan «minute») × (now (out .exit) ≡ frame (sentBy plan «minute») ++ drop (lengthAt plan «minute») (now (out .entry))) ⌝ }
 {
     let time = timeword::encode(minute) as u64;
     let echo = (minute % 2) as u64;
-    let state = plan.state(minute);
-    let daylight = state.daylight;
-    let next = codewords::next_word(plan.row_for(daylight)) as u64;
-    let state = codewords::state_word(state) as u64;
-    let word = body_word(time, echo, state, plan.notice as u64, next);
+    let word = time_part(time, echo) * 4096 + day;
     let length = plan.length(minute) as usize;
     bits::spread(word << (length - BODY), &mut out[..length]);
     length

@@ -57,29 +57,37 @@ impl WriteRefusal {
 
 const MAX_COUNT: u32 = 1_000;
 
-// The bits of the frames of count minutes from the first on.
+// The bits of the frames of count minutes from the first on. They are less than a day, so that one of them at most
+// ends a day, and only such a minute can have 59 or 61 seconds.
 fn bits_needed(plan: Plan, first: u32, count: u32) -> usize
     requires { ⌜ (count ≤ 1000) × (first + count ≤ minuteCount) ⌝ }
     ensures { λ r. ⌜ r ≡ seconds plan first count ⌝ }
 {
-    let mut sum: usize = 0;
-    let mut i: u32 = 0;
-    while i < count {
-        sum += plan.length(first + i) as usize;
-        i += 1;
+    let last = first / 1440 * 1440 + 1439;
+    let mut sum = count * 60;
+    if last < first + count {
+        sum = sum - 60 + plan.length(last);
     }
-    sum
+    sum as usize
 }
 
-// Writes the frames of count minutes from the first on, each directly behind the one before.
+// Writes the frames of count minutes from the first on, each directly behind the one before. The bits that a day's
+// frames share are worked out once for the day.
 fn write_frames(plan: Plan, first: u32, count: u32, out: &mut [u8])
-    requires { ⌜ (legalPlan plan ≡ true) × (first + count ≤ minuteCount) × (seconds plan first count ≤ length (now out)) ⌝ }
+    requires { ⌜ (legalPlan plan ≡ true) × (1 ≤ count) × (first + count ≤ minuteCount) × (seconds plan first count ≤ length (now out)) ⌝ }
     ensures { λ r. ⌜ now (out .exit) ≡ recording plan first count ++ drop (seconds plan first count) (now (out .entry)) ⌝ }
 {
+    let mut day = first / 1440;
+    let mut word = frame::day_word(plan, day);
     let mut at: usize = 0;
     let mut i: u32 = 0;
     while i < count {
-        at += frame::write_frame(plan, first + i, &mut out[at..]);
+        let minute = first + i;
+        if minute / 1440 != day {
+            day = minute / 1440;
+            word = frame::day_word(plan, day);
+        }
+        at += frame::write_frame(plan, minute, word, &mut out[at..]);
         i += 1;
     }
 }
