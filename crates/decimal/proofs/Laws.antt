@@ -10,10 +10,10 @@ use native.Mathlib.Omega.{arith}
 use lib.Dec.{leb, ltb}
 use lib.ListN.{length, getD, set, drop, length-append}
 use lib.Seq.{drop-cons, drop-length}
-use borrow.Author.Tests.{lt-ltb, le-ltb, le-leb, lt-leb, ltb-true, ltb-false}
+use borrow.Author.Tests.{lt-ltb, le-ltb, le-leb, lt-leb, ltb-true, ltb-false, leb-true}
 use Rattle.bits.specs.Bits.{pick, all}
 use Rattle.bits.proofs.Slices.{drop-set, all-drop}
-use Rattle.bits.proofs.Tests.{and-true}
+use Rattle.bits.proofs.Tests.{and-true, head-true, tail-true}
 use Rattle.decimal.specs.Decimal.{widthWithin, width, digits, decimal, isDigit, valueFrom, value, isWhole, isNumber, numberIn}
 use Rattle.decimal.specs.declared.Number.the-variants.{Value, NotANumber}
 
@@ -109,6 +109,10 @@ high-byte b h = rw (lt-leb b 57 h, and-false)
 pub digit-byte : (b : ℕ) → 48 ≤ b → b ≤ 57 → isDigit b ≡ true
 unfolding isDigit
 digit-byte b h l = and-true (le-leb 48 b h) (le-leb b 57 l)
+
+pub digit-range : (b : ℕ) → isDigit b ≡ true → (48 ≤ b) × (b ≤ 57)
+unfolding isDigit
+digit-range b h = (leb-true 48 b (head-true (leb 48 b) (leb b 57) h), leb-true b 57 (tail-true (leb 48 b) (leb b 57) h))
 
 -- the bytes before place i are digits
 abbrev pub DigitsTo : List ℕ → ℕ → Type 0

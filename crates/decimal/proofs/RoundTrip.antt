@@ -13,7 +13,7 @@ use Rattle.bits.specs.Bits.{pick, all}
 use Rattle.bits.proofs.Tests.{head-true, tail-true, and-true}
 use Rattle.decimal.specs.Decimal.{width, digits, decimal, isDigit, valueFrom, value, isWhole, isDecimal}
 use Rattle.decimal.specs.Theorems.{TextIsDecimal, TextSaysNumber, DigitsAreText}
-use Rattle.decimal.proofs.Laws.{width-small, width-more, width-one, by-digits, length-digits, length-decimal}
+use Rattle.decimal.proofs.Laws.{width-small, width-more, width-one, by-digits, length-digits, length-decimal, digit-range}
 
 -- the text of a number of one digit, and of a larger one by its rest
 decimal-small : (n : ℕ) → n < 10 → decimal n ≡ (48 + n) ∷ []
@@ -84,10 +84,6 @@ unfolding isDecimal
 text-is-decimal zero = rw (decimal-whole 0, decimal-small 0 (omega arith))
 text-is-decimal (suc n) =
     rw (decimal-whole (suc n), head-not-zero (suc n) (omega arith)) (or-true (eqb (length (decimal (suc n))) 1))
-
-digit-range : (b : ℕ) → isDigit b ≡ true → (48 ≤ b) × (b ≤ 57)
-unfolding isDigit
-digit-range b h = (leb-true 48 b (head-true (leb 48 b) (leb b 57) h), leb-true b 57 (tail-true (leb 48 b) (leb b 57) h))
 
 -- a text of digits by its first
 module _ (b : ℕ) (w : List ℕ) (h : all isDigit (b ∷ w) ≡ true) where

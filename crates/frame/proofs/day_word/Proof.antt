@@ -9,7 +9,7 @@ use Rattle.plan.specs.Plan.{rowFor, rowAt, stateAt}
 use Rattle.plan.specs.declared.Plan.{Plan}
 use Rattle.plan.proofs.Laws.{same-daylight}
 use Rattle.plan.proofs.Rows.{notice-legal}
-use Rattle.frame.proofs.Sending.{state-word-small, row-small, next-word-small, stateWordAt, nextWordAt, day-word-is}
+use Rattle.frame.proofs.Sending.{state-word-small, next-word-small, stateWordAt, nextWordAt, day-word-is}
 use borrow.Author.Needs.{needs}
 use Rattle.frame.proofs.day_word.Statement.{statement}
 use Rattle.frame.proofs.day_word.Tie as tie

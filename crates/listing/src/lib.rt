@@ -1,0 +1,29 @@
+// The listing of `station`: from the bytes of its input to the bytes that it prints.
+ghost use mathlib.Core.Path.{_≡_};
+ghost use Rattle.listing.specs.Listing.{listing};
+ghost use Rattle.listing.specs.Answer.{putInto, listOutcome};
+
+mod line;
+mod text;
+
+use line::Line;
+pub use text::ListAnswer;
+
+// The bytes of the longest listing, that of 1,000 frames.
+pub const LISTING_SPACE: usize = 73_021;
+
+const LINE_FEED: u8 = b'\n';
+
+const ILLEGAL_LINE: u32 = 1;
+
+// Writes to out what the first line of the input is answered with.
+pub fn list(input: &[u8], out: &mut [u8]) -> ListAnswer
+    ensures { λ r. ⌜ listOutcome r (now (out .exit)) ≡ putInto (now (out .entry)) (listing (now (input .entry))) ⌝ }
+{
+    let end = bytes::scan::find(input, 0, input.len(), LINE_FEED);
+    let line = line::read_line(&input[..end]);
+    match line {
+        Line::Illegal => text::put_refused(ILLEGAL_LINE, out),
+        Line::Numbers(request) => text::put_answer(request, out),
+    }
+}
