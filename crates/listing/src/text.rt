@@ -71,7 +71,8 @@ fn put_frame(plan: Plan, minute: u32, out: &mut [u8]) -> usize
     requires { ⌜ (legalPlan plan ≡ true) × («minute» < minuteCount) × (lengthAt plan «minute» < length (now out)) ⌝ }
     ensures { λ r. ⌜ (r ≡ lengthAt plan «minute» + 1) × (now (out .exit) ≡ bitsText (frame (sentBy plan «minute»)) ++ drop (lengthAt plan «minute» + 1) (now (out .entry))) ⌝ }
 {
-    let count = frame::write_frame(plan, minute, out);
+    let day = frame::day_word(plan, minute / 1440);
+    let count = frame::write_frame(plan, minute, day, out);
     print_bits(&mut out[..count]);
     out[count] = LINE_FEED;
     count + 1

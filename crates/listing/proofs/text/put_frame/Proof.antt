@@ -16,6 +16,9 @@ use borrow.Author.Needs.{needs}
 use Rattle.listing.proofs.text.put_frame.Statement.{statement}
 use Rattle.listing.proofs.text.put_frame.Tie as tie
 
+day-word-requires : tie.Need-day-word-requires
+day-word-requires c κs = search needs
+
 write-frame-requires : tie.Need-write-frame-requires
 write-frame-requires c κs = search needs
 
@@ -24,35 +27,35 @@ slice-relend-prefix-print-bits c = search needs
 
 module _ (c : tie.After-write-frame) where
   abbrev f : List ℕ
-  f = frame (sentBy (c .before .before .before .args .plan) (c .before .before .before .args .minute))
+  f = frame (sentBy (c .before .before .before .before .args .plan) (c .before .before .before .before .args .minute))
 
   abbrev k : ℕ
-  k = lengthAt (c .before .before .before .args .plan) (c .before .before .before .args .minute)
+  k = lengthAt (c .before .before .before .before .args .plan) (c .before .before .before .before .args .minute)
 
   abbrev out₀ : List ℕ
-  out₀ = c .before .before .before .args .out .now
+  out₀ = c .before .before .before .before .args .out .now
 
   abbrev ys : List ℕ
-  ys = c .write-frame .last .1 .1 .0
+  ys = c .write-frame .last .1 .1 .1 .0
 
   size : length f ≡ k
-  size = length-sent (c .before .before .before .args .plan) (c .before .before .before .args .minute)
+  size = length-sent (c .before .before .before .before .args .plan) (c .before .before .before .before .args .minute)
 
   -- the frame stands in front
   sent : Put f out₀ ys k
-  sent = put-of f out₀ ys k k size (omega (arith, c .before .before .before .pre .2)) refl (c .write-frame .ensures .1)
+  sent = put-of f out₀ ys k k size (omega (arith, c .before .before .before .before .pre .2)) refl (c .write-frame .ensures .1)
 
   -- its digits and the line feed
   printed : (zs : List ℕ) → zs ≡ map glyph (take (c .write-frame .result) ys)
       → Put (bitsText f) out₀ (set (zs ++ drop (c .write-frame .result) ys) (c .write-frame .result) 10) (k + 1)
   printed zs e =
-      put-of (bitsText f) out₀ _ (k + 1) (k + 1) (length-bits f ∙ ap (λ (n : ℕ). n + 1) size) (omega (arith, c .before .before .before .pre .2)) refl
-      (bits-put f out₀ ys zs k (c .write-frame .result) size (c .write-frame .ensures .0) (c .before .before .before .pre .2) (c .write-frame .ensures .1) e)
+      put-of (bitsText f) out₀ _ (k + 1) (k + 1) (length-bits f ∙ ap (λ (n : ℕ). n + 1) size) (omega (arith, c .before .before .before .before .pre .2)) refl
+      (bits-put f out₀ ys zs k (c .write-frame .result) size (c .write-frame .ensures .0) (c .before .before .before .before .pre .2) (c .write-frame .ensures .1) e)
 
 slice-aggregate-print-bits : tie.Need-slice-aggregate-print-bits
 slice-aggregate-print-bits c =
     let w = c .before .before .before in
-    sym (length-take-le _ (w .write-frame .last .1 .1 .0) (omega (arith, put-length (sent w), w .write-frame .ensures .0, w .before .before .before .pre .2)))
+    sym (length-take-le _ (w .write-frame .last .1 .1 .1 .0) (omega (arith, put-length (sent w), w .write-frame .ensures .0, w .before .before .before .before .pre .2)))
 
 print-bits-requires : tie.Need-print-bits-requires
 print-bits-requires c κs = search needs
@@ -78,6 +81,7 @@ pub put-frame-spec : {M : Type 1} → statement M
 put-frame-spec =
     tie.close
     (tie.spec
+    day-word-requires
     write-frame-requires
     slice-relend-prefix-print-bits
     slice-aggregate-print-bits
