@@ -1,6 +1,6 @@
 -- What the sender says to little space, as the answer to questions 1 to 3.
 -- Assumes nothing.
-use Prim.Native.Nat.{ℕ, _+_, _≤_}
+use Prim.Native.Nat.{ℕ, _+_, _≤_, _<_}
 use mathlib.Core.Bool.{Bool, true, false, _&&_}
 use mathlib.Core.Logic.{_⊎_, inl, inr}
 use mathlib.Core.Path.{_≡_, refl}
@@ -33,10 +33,21 @@ all-yes true true false h = absurd (omega arith)
 all-yes true false c h = absurd (omega arith)
 all-yes false b c h = absurd (omega arith)
 
+at-most-3 : (a b c : Bool) → three a b c 0 < 10
+at-most-3 true true true = omega arith
+at-most-3 true true false = omega arith
+at-most-3 true false c = omega arith
+at-most-3 false b c = omega arith
+
 module _ (p : Plan) (m n : ℕ) where
   refusal-is : refusalOf p m n ≡ three (legalPlan p) (leb 1 n && leb n 1000) (leb (m + n) minuteCount) 0
   unfolding refusalOf writeRefusal
   refusal-is = rw (le-leb (seconds p m n) (seconds p m n) (le-refl (seconds p m n)))
+
+  -- one digit
+  pub refusal-small : refusalOf p m n < 10
+  refusal-small =
+      rw refusal-is (at-most-3 (legalPlan p) (leb 1 n && leb n 1000) (leb (m + n) minuteCount))
 
   pub asked : (space : ℕ) → pick (eqb (writeRefusal p m n space) 4) 0 (writeRefusal p m n space) ≡ refusalOf p m n
   unfolding writeRefusal

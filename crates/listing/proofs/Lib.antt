@@ -5,3 +5,5 @@ pub mod Texts
 pub mod Asking
 pub mod Putting
 pub mod Answers
+pub mod Space
+pub mod Front

@@ -14,8 +14,8 @@ use Rattle.plan.specs.Plan.{lengthAt}
 use Rattle.plan.specs.declared.Plan.{Plan}
 use Rattle.plan.proofs.Rows.{length-range}
 use Rattle.frame.specs.Frame.{frame, sentBy}
-use Rattle.recording.specs.Writing.{frames}
-use Rattle.recording.proofs.Sums.{length-sent}
+use Rattle.recording.specs.Writing.{frames, seconds}
+use Rattle.recording.proofs.Sums.{length-sent, seconds-small}
 use Rattle.listing.specs.Listing.{glyph, numberText, bitsText, frameLine, frameLines, heading, framesText, refusedWord, refusedText}
 use Rattle.listing.proofs.Putting.{byte-more}
 
@@ -100,11 +100,15 @@ module _ (p : Plan) where
   lines-mono m (suc i) (suc n) h =
       omega (arith, lines-mono (suc m) i n (omega arith), length-append (lineOf p m) (linesOf p (suc m) i), length-append (lineOf p m) (linesOf p (suc m) n))
 
+  -- beside its bits a line has 13 bytes at most
+  pub lines-seconds : (m n : ℕ) → m + n ≤ minuteCount → length (linesOf p m n) ≤ seconds p m n + 13 * n
+  unfolding frames frameLines seconds
+  lines-seconds m zero h = omega arith
+  lines-seconds m (suc n) h =
+      omega (arith, lines-seconds (suc m) n (omega arith), length-append (lineOf p m) (linesOf p (suc m) n), line-small p m (omega arith))
+
   pub lines-small : (m n : ℕ) → m + n ≤ minuteCount → length (linesOf p m n) ≤ 74 * n
-  unfolding frames frameLines
-  lines-small m zero h = omega arith
-  lines-small m (suc n) h =
-      omega (arith, lines-small (suc m) n (omega arith), length-append (lineOf p m) (linesOf p (suc m) n), line-small p m (omega arith), length-range p m .1)
+  lines-small m n h = omega (arith, lines-seconds m n h, seconds-small p m n)
 
   pub length-frames : (m n : ℕ) → length (framesText m (frames p m n)) ≡ 20 + length (linesOf p m n)
   unfolding framesText heading
