@@ -3,47 +3,52 @@
 use Prim.Native.Nat.{ℕ, _≤_, _<_}
 use mathlib.Core.Bool.{Bool, true, false}
 use mathlib.Core.List.{List}
-use mathlib.Core.Path.{_≡_, refl, subst}
+use mathlib.Core.Logic.{_⊎_, inl, inr}
+use mathlib.Core.Path.{_≡_, sym, subst, _∙_}
 use native.Mathlib.Omega.{arith}
+use lib.Dec.{leb, eqb}
 use lib.ListN.{length}
-use borrow.Author.Tests.{leb-true, ltb-true, eqb-true}
+use borrow.Author.Tests.{leb-true, eqb-true}
+use Rattle.bits.specs.Bits.{pick}
 use Rattle.bits.proofs.Tests.{head-true}
 use Rattle.calendar.specs.Calendar.{minuteCount}
 use Rattle.frame.specs.Entry.{Entry}
-use Rattle.frame.specs.Reading.{Answer, entry, ask, enough, entryOf, askFields, readFrame}
+use Rattle.frame.specs.Reading.{refused, entry, entryOf, readFrame}
+use Rattle.frame.specs.Refusals.{answer, AllYes, chosen, frameQuestions}
 use Rattle.frame.proofs.Legal.{seconds-long}
-
--- a question of an accepted frame got a yes
-asked : (n : ℕ) (t : Bool) (a : Answer) (e : Entry) → ask n t a ≡ entry e → (t ≡ true) × (a ≡ entry e)
-unfolding ask
-asked n true a e h = (refl, h)
-asked n false a e h = let z : _≡_ {A = ℕ} 0 1 = cc in absurd (omega arith)
+use Rattle.frame.proofs.Refusals.{not-refused, frame-accepted, frame-answers}
 
 pub record Accepted (f : List ℕ) (e : Entry) : Type 0 where
   pub minute-in : e .minute < minuteCount
   pub enough-left : e .seconds ≤ length f
   pub long : 59 ≤ e .seconds
 
-enough-le : (one : Bool) (n l : ℕ) → enough one n l ≡ true → n ≤ l
-unfolding enough
+-- the entry of an accepted frame is that of its bits
+pub entry-only : (alone : Bool) (f : List ℕ) (e : Entry) → readFrame alone f ≡ entry e → e ≡ entryOf f
+entry-only alone f e h = go (frame-answers alone f)
+  where
+    go : (readFrame alone f ≡ entry (entryOf f)) ⊎ ((n : ℕ) × (6 ≤ n) × (n ≤ 13) × (readFrame alone f ≡ refused n)) → e ≡ entryOf f
+    go (inl q) = cc
+    go (inr q) = absurd (not-refused (q .0) e (sym (q .3) ∙ h))
+
+pub seconds-59 : (f : List ℕ) → 59 ≤ entryOf f .seconds
+unfolding entryOf
+seconds-59 f = seconds-long _ _
+
+enough-le : (alone : Bool) (n l : ℕ) → pick alone (eqb n l) (leb n l) ≡ true → n ≤ l
 enough-le true n l h = omega (arith, eqb-true n l h)
 enough-le false n l h = leb-true n l h
 
-fields : (one : Bool) (f : List ℕ) (d e : Entry) → 59 ≤ d .seconds → askFields one f d ≡ entry e → Accepted f e
-unfolding askFields
-fields one f d e long h =
-    let a = asked 10 _ _ e h .1 in
-    let b = asked 11 _ _ e a in
-    let c = asked 13 _ _ e (asked 12 _ _ e (b .1) .1) in
-    let s : d ≡ e = cc in
-    subst (Accepted f) s
-    (record { minute-in = ltb-true (d .minute) minuteCount (b .0); enough-left = enough-le one (d .seconds) (length f) (head-true _ _ (c .0)); long = long })
+by-answers : (alone : Bool) (f : List ℕ) → AllYes (frameQuestions alone f) → Accepted f (entryOf f)
+unfolding entryOf frameQuestions answer
+by-answers alone f a =
+    record {
+      minute-in = omega (arith, leb-true (chosen f .minute) 52595999 (a 11));
+      enough-left = enough-le alone _ (length f) (head-true _ _ (a 13));
+      long = seconds-long _ _;
+    }
 
-entry-long : (f : List ℕ) → 59 ≤ entryOf f .seconds
-unfolding entryOf
-entry-long f = seconds-long _ _
-
-pub accepted : (one : Bool) (f : List ℕ) (e : Entry) → readFrame one f ≡ entry e → Accepted f e
-unfolding readFrame
-accepted one f e h =
-    fields one f (entryOf f) e (entry-long f) (asked 9 _ _ e (asked 8 _ _ e (asked 7 _ _ e (asked 6 _ _ e h .1) .1) .1) .1)
+pub accepted : (alone : Bool) (f : List ℕ) (e : Entry) → readFrame alone f ≡ entry e → Accepted f e
+accepted alone f e h =
+    let s = entry-only alone f e h in
+    subst (Accepted f) (sym s) (by-answers alone f (frame-accepted alone f .0 (subst (λ (d : Entry). readFrame alone f ≡ entry d) s h)))

@@ -44,7 +44,7 @@ frame-up alone f = refl
 refused-injective : (n m : ℕ) → refused n ≡ refused m → n ≡ m
 refused-injective n m h = cc
 
-not-refused : (n : ℕ) (e : Entry) → refused n ≡ entry e → ⊥
+pub not-refused : (n : ℕ) (e : Entry) → refused n ≡ entry e → ⊥
 not-refused n e h = let z : _≡_ {A = ℕ} 0 1 = cc in omega arith
 
 pub frame-accepted : FrameAccepted

@@ -15,10 +15,9 @@ use Rattle.bits.proofs.Parts.{part-take}
 use Rattle.frame.specs.Frame.{wordIn, stateIn, nextIn}
 use Rattle.frame.specs.Inverting.{withUnread}
 use Rattle.frame.specs.Entry.{Entry}
-use Rattle.frame.specs.Reading.{Answer, refused, entry, ask, enough, entryOf, askFields, readFrame, readOne}
-use Rattle.frame.proofs.Legal.{seconds-long}
+use Rattle.frame.specs.Reading.{entry, enough, entryOf, askFields, readFrame, readOne}
 use Rattle.frame.proofs.Questions.{word-front, state-front, next-front, no-6}
-use Rattle.frame.proofs.Accepted.{accepted}
+use Rattle.frame.proofs.Accepted.{accepted, entry-only, seconds-59}
 
 -- the list of g 0 to g (n - 1)
 unfoldable tabulate : ℕ → (ℕ → ℕ) → List ℕ
@@ -62,10 +61,6 @@ module _ (x y : ℕ) (hx : isBit x ≡ true) (hy : isBit y ≡ true) where
       go : (g : ℕ → ℕ) (r : List ℕ) → entryOf (withUnread x y (tabulate 59 g ++ r)) ≡ entryOf (tabulate 59 g ++ r)
       go g r = unfold withUnread entryOf wordIn stateIn nextIn tabulate in refl
 
-pub seconds-59 : (f : List ℕ) → 59 ≤ entryOf f .seconds
-unfolding entryOf
-seconds-59 f = seconds-long _ _
-
 -- an entry comes from the first 59 bits
 entry-front : (f : List ℕ) → entryOf (take 59 f) ≡ entryOf f
 unfolding entryOf
@@ -95,27 +90,11 @@ module _ (f g : List ℕ) (same : take (entryOf f .seconds) f ≡ take (entryOf 
       let t : take 13 g ≡ take 13 f = sym (take-take 13 59 g (omega arith)) ∙ ap (take 13) (sym front) ∙ take-take 13 59 f (omega arith) in
       rw (same-entry, k, t, ← front, ← q6, ← q13, ← behind)
 
--- an answer is a refusal or the entry of the frame's bits
-abbrev pub Shape : Entry → Answer → Type 0
-Shape e (refused r) = Unit {0}
-Shape e (entry d) = d ≡ e
-
-ask-shape : (e : Entry) (n : ℕ) (t : Bool) (a : Answer) → Shape e a → Shape e (ask n t a)
-unfolding ask
-ask-shape e n true a h = h
-ask-shape e n false a h = tt
-
-pub read-shape : (alone : Bool) (f : List ℕ) → Shape (entryOf f) (readFrame alone f)
-unfolding readFrame askFields
-read-shape alone f =
-    let e = entryOf f in
-    ask-shape e 6 _ _ (ask-shape e 7 _ _ (ask-shape e 8 _ _ (ask-shape e 9 _ _ (ask-shape e 10 _ _ (ask-shape e 11 _ _ (ask-shape e 12 _ _ (ask-shape e 13 _ _ refl)))))))
-
 -- an accepted frame is accepted with fewer bits behind it
 pub cut-answer : (f : List ℕ) (e : Entry) (m : ℕ) → readFrame false f ≡ entry e → e .seconds ≤ m → readFrame false (take m f) ≡ entry e
 unfolding enough
 cut-answer f e m h l =
-    let is : e ≡ entryOf f = subst (Shape (entryOf f)) h (read-shape false f) in
+    let is : e ≡ entryOf f = entry-only false f e h in
     let s = entryOf f .seconds in
     let fits : s ≤ length f = subst (λ (d : Entry). d .seconds ≤ length f) is (accepted false f e h .enough-left) in
     let short : s ≤ m = subst (λ (d : Entry). d .seconds ≤ m) is l in

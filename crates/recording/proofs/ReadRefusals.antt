@@ -17,7 +17,7 @@ use Rattle.frame.specs.Reading.{Answer, refused, entry, entryOf}
 use Rattle.frame.specs.Refusals.{answer, AllYes, FirstNo, chosen, lengthCalled, frameQuestions}
 use Rattle.frame.proofs.Chain.{chain, chain-map, chain-append, ascending, Verdict, verdict, all-yes, first-no, chain-yes, chain-no, no-range}
 use Rattle.frame.proofs.Refusals.{by-questions}
-use Rattle.frame.proofs.Unread.{seconds-59}
+use Rattle.frame.proofs.Accepted.{seconds-59}
 use Rattle.recording.specs.Reading.{Found, stop, add, start, after, follows, onward, readFrames, readRecording, Outcome, outcome, readInto}
 use Rattle.recording.specs.Refusals.{secondsOf, behind, question14, nextQuestions, Read, none, more, Ends, RecordingRead, RecordingOnly, RecordingAccepted, RecordingRefused, RecordingAnswers}
 use Rattle.recording.specs.declared.Due.{Due}

@@ -13,9 +13,9 @@ use Rattle.bits.specs.Bits.{isBit}
 use Rattle.frame.specs.Inverting.{withUnread}
 use Rattle.frame.specs.Entry.{Entry}
 use Rattle.frame.specs.Reading.{Answer, refused, entry, entryOf, readFrame}
-use Rattle.frame.proofs.Accepted.{accepted}
+use Rattle.frame.proofs.Accepted.{accepted, entry-only}
 use Rattle.frame.proofs.Questions.{no-6}
-use Rattle.frame.proofs.Unread.{length-unread, read-unread, one-unread, entry-unread, same-answer, Shape, read-shape}
+use Rattle.frame.proofs.Unread.{length-unread, read-unread, one-unread, entry-unread, same-answer}
 use Rattle.recording.specs.Reading.{Found, stop, start, after, onward, readFrames, readRecording, outcome, readInto}
 use Rattle.recording.specs.Unread.{withUnreadEach, UnreadAreBits, UnreadBitsChangeNothing, UnreadBitsOfOneFrame}
 use Rattle.recording.specs.declared.Due.{Due}
@@ -109,7 +109,7 @@ module _ (x y : ℕ → ℕ) (hx : (j : ℕ) → isBit (x j) ≡ true) (hy : (j 
             ∙ ap (λ (a : Answer). onward due (withUnreadEach x y j (suc n) f) a (readFrames m)) (first-answer n j f (b .0) (b .1))
             ∙ onward-same due f (withUnreadEach x y j (suc n) f) (readFrame false f) (readFrames m)
             (λ e q.
-            let is : e ≡ entryOf f = subst (Shape (entryOf f)) q (read-shape false f) in
+            let is : e ≡ entryOf f = entry-only false f e q in
             let l : entryOf f .seconds ≤ length f = subst (λ (d : Entry). d .seconds ≤ length f) is (accepted false f e q .enough-left) in
             rw is (ap (readFrames m (after (entryOf f))) (rest-is n j f l) ∙ unread-each m n (suc j) (after (entryOf f)) (drop (entryOf f .seconds) f) (b .2)))
             ∙ sym (step m due f g)
