@@ -103,9 +103,9 @@ reads-as s r h f = (back, only)
 
 pub rows-read-back : RowsReadBack
 rows-read-back = (
-  λ s r z l h. reads-as s r (omega arith) (fits-spring (daylightNumber s) r l (omega arith) ∙ lt-ltb (daylightNumber s) 2 (omega arith)),
-  λ s r z l h. reads-as s r (omega arith) (fits-autumn (daylightNumber s) r l (omega arith) ∙ le-leb 2 (daylightNumber s) (omega arith)),
-  λ s r l h. reads-as s r h (fits-either (daylightNumber s) r l (omega arith)),
+  λ s r z l h. reads-as s r (omega arith) (fits-spring (daylightNumber s) r l h ∙ lt-ltb (daylightNumber s) 2 (omega arith)),
+  λ s r z l h. reads-as s r (omega arith) (fits-autumn (daylightNumber s) r l h ∙ le-leb 2 (daylightNumber s) (omega arith)),
+  λ s r l h. reads-as s r h (fits-either (daylightNumber s) r l h),
 )
 
 pub other-rows-unassigned : OtherRowsUnassigned

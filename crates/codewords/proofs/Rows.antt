@@ -13,17 +13,17 @@ use Rattle.codewords.specs.declared.RowAnswer.the-variants.{Assigned}
 use Rattle.codewords.proofs.Search.{first-ge, first-agree, first-miss, three-parts}
 
 module _ (d r : ℕ) where
-  pub fits-spring : 1 ≤ r → r < 25 → rowFits d r ≡ ltb d 2
+  pub fits-spring : 1 ≤ r → r ≤ 24 → rowFits d r ≡ ltb d 2
   unfolding rowFits
-  fits-spring l h = rw (le-leb r 24 (omega arith), lt-ltb 0 r (omega arith))
+  fits-spring l h = rw (le-leb r 24 h, lt-ltb 0 r (omega arith))
 
-  pub fits-autumn : 25 ≤ r → r < 49 → rowFits d r ≡ leb 2 d
+  pub fits-autumn : 25 ≤ r → r ≤ 48 → rowFits d r ≡ leb 2 d
   unfolding rowFits
-  fits-autumn l h = rw (lt-leb r 24 (omega arith), le-leb r 48 (omega arith))
+  fits-autumn l h = rw (lt-leb r 24 (omega arith), le-leb r 48 h)
 
-  pub fits-either : 49 ≤ r → r < 52 → rowFits d r ≡ true
+  pub fits-either : 49 ≤ r → r ≤ 51 → rowFits d r ≡ true
   unfolding rowFits
-  fits-either l h = rw (lt-leb r 24 (omega arith), lt-leb r 48 (omega arith), le-leb r 51 (omega arith))
+  fits-either l h = rw (lt-leb r 24 (omega arith), lt-leb r 48 (omega arith), le-leb r 51 h)
 
 module _ (d v : ℕ) where
   -- the row is read in the daylight state, and its word is v
@@ -43,23 +43,23 @@ module _ (d v : ℕ) where
         first-miss reads a (e - a) (λ r m n. rw (h r m (omega arith))) ∙ s
 
   either : first reads 49 (52 - 49) ≡ rowAmong 49 52 v
-  either = part-read 49 52 (lit≤ tt) (fits-either d)
+  either = part-read 49 52 (lit≤ tt) (λ r m n. fits-either d r m (omega arith))
 
   -- with dst_on[1] 0, and with 1
   row-spring : d < 2 → rowOf d v ≡ pick (ltb (rowAmong 1 25 v) 25) (rowAmong 1 25 v) (rowAmong 49 52 v)
   unfolding rowOf reads
   row-spring h =
       three-parts reads 1 25 49 52 (lit≤ tt) (lit≤ tt) (lit≤ tt) (rowAmong 1 25 v) 49 (rowAmong 49 52 v)
-      (part-read 1 25 (lit≤ tt) (λ r m n. fits-spring d r m n ∙ lt-ltb d 2 h))
-      (part-passed 25 49 (lit≤ tt) (λ r m n. fits-autumn d r m n ∙ lt-leb 2 d h))
+      (part-read 1 25 (lit≤ tt) (λ r m n. fits-spring d r m (omega arith) ∙ lt-ltb d 2 h))
+      (part-passed 25 49 (lit≤ tt) (λ r m n. fits-autumn d r m (omega arith) ∙ lt-leb 2 d h))
       either
 
   row-autumn : 2 ≤ d → rowOf d v ≡ pick (ltb (rowAmong 25 49 v) 49) (rowAmong 25 49 v) (rowAmong 49 52 v)
   unfolding rowOf reads
   row-autumn h =
       three-parts reads 1 25 49 52 (lit≤ tt) (lit≤ tt) (lit≤ tt) 25 (rowAmong 25 49 v) (rowAmong 49 52 v)
-      (part-passed 1 25 (lit≤ tt) (λ r m n. fits-spring d r m n ∙ le-ltb d 2 h))
-      (part-read 25 49 (lit≤ tt) (λ r m n. fits-autumn d r m n ∙ le-leb 2 d h))
+      (part-passed 1 25 (lit≤ tt) (λ r m n. fits-spring d r m (omega arith) ∙ le-ltb d 2 h))
+      (part-read 25 49 (lit≤ tt) (λ r m n. fits-autumn d r m (omega arith) ∙ le-leb 2 d h))
       either
 
 -- ---- the steps of a reader: x is what the search of the first part gives
