@@ -1,12 +1,11 @@
 -- What is printed, case by case.
 -- Assumes nothing.
 use Prim.Native.Nat.{ℕ}
-use mathlib.Core.Bool.{Bool, true, false}
 use mathlib.Core.List.{List}
-use mathlib.Core.Path.{_≡_, refl, sym, ap, _∙_}
+use mathlib.Core.Path.{_≡_}
 use native.Mathlib.Omega.{arith}
-use borrow.Author.Tests.{eq-eqb, ne-eqb}
-use Rattle.bits.specs.Bits.{pick}
+use borrow.Author.Tests.{ne-eqb}
+use Rattle.decimal.proofs.Cases.{pick-some, pick-none}
 use Rattle.recording.specs.Writing.{frames}
 use Rattle.listing.specs.Line.{firstLine, isLine, requestIn, lineIn}
 use Rattle.listing.specs.Listing.{framesText, refusedText, refusalOf, answerText, listing}
@@ -26,21 +25,19 @@ module _ (q : Request) where
 
 -- ---- a line
 
-numbers-of : (b : Bool) (y q : Request) → pick b (Numbers y) Illegal ≡ Numbers q → (b ≡ true) × (q ≡ y)
-numbers-of true y q e = (refl, cc)
-numbers-of false y q e = let z : _≡_ {A = ℕ} 0 1 = cc in absurd (omega arith)
+apart : (q : Request) → Numbers q ≡ Illegal → ⊥
+apart q e = let z : _≡_ {A = ℕ} 0 1 = cc in omega arith
 
-none-of : (b : Bool) (y : Request) → pick b (Numbers y) Illegal ≡ Illegal → b ≡ false
-none-of true y e = let z : _≡_ {A = ℕ} 0 1 = cc in absurd (omega arith)
-none-of false y e = refl
+same : (p q : Request) → Numbers p ≡ Numbers q → p ≡ q
+same p q e = cc
 
 module _ (input : List ℕ) where
   pub illegal-listing : lineIn (firstLine input) ≡ Illegal → refusedText 1 ≡ listing input
   unfolding lineIn listing
-  illegal-listing e = rw (none-of (isLine (firstLine input)) (requestIn (firstLine input)) e)
+  illegal-listing e = rw (pick-none Numbers Illegal apart same (isLine (firstLine input)) (requestIn (firstLine input)) e)
 
   pub legal-listing : (q : Request) → lineIn (firstLine input) ≡ Numbers q → answerText q ≡ listing input
   unfolding lineIn listing
   legal-listing q e =
-      let n = numbers-of (isLine (firstLine input)) (requestIn (firstLine input)) q e in
+      let n = pick-some Numbers Illegal apart same (isLine (firstLine input)) (requestIn (firstLine input)) q e in
       rw (n .0, n .1)

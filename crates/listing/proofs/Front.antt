@@ -1,8 +1,8 @@
 -- The first 81 bytes of the input decide: a longer line is no line of eight numbers.
 -- Assumes nothing.
-use Prim.Native.Nat.{ℕ, zero, suc, _+_, _-_, _≤_, _<_}
+use Prim.Native.Nat.{ℕ, zero, suc, _+_, _≤_, _<_}
 use mathlib.Core.Bool.{Bool, true, false, _&&_}
-use mathlib.Core.List.{List, [], _∷_, _++_}
+use mathlib.Core.List.{List, [], _∷_}
 use mathlib.Core.Path.{_≡_, refl, sym, ap, _∙_}
 use native.Mathlib.Omega.{arith}
 use lib.Dec.{leb, eqb}
@@ -14,8 +14,8 @@ use Rattle.bits.proofs.Tests.{head-true, tail-true}
 use Rattle.bytes.specs.Bytes.{indexOf, indexAfter}
 use Rattle.decimal.specs.Decimal.{isNumber}
 use Rattle.decimal.proofs.Reading.{number-length}
-use Rattle.listing.specs.Line.{before, behind, firstLine, behindSpaces, part, lastPart, hasMinus, unsigned, isLine, requestIn}
-use Rattle.listing.specs.Listing.{answerText, refusedText, listing}
+use Rattle.listing.specs.Line.{before, behind, firstLine, behindSpaces, part, lastPart, hasMinus, unsigned, isLine}
+use Rattle.listing.specs.Listing.{refusedText, listing}
 use Rattle.listing.specs.Theorems.{FirstBytesDecide}
 
 -- the first line of a cut input is the first line, cut

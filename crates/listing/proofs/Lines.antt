@@ -3,13 +3,14 @@
 use Prim.Native.Nat.{ℕ, _^_, _<_}
 use mathlib.Core.Bool.{Bool, true, false}
 use mathlib.Core.List.{List}
-use mathlib.Core.Path.{_≡_, refl, sym, _∙_}
+use mathlib.Core.Path.{_≡_}
 use native.Mathlib.Omega.{arith}
 use lib.IntN.{ℤ, pos, negℤ}
-use lib.ListN.{length, drop, getD}
+use lib.ListN.{drop, getD}
 use borrow.Author.Tests.{eq-eqb, ne-eqb}
 use Rattle.bits.specs.Bits.{pick}
 use Rattle.decimal.specs.Decimal.{value, isNumber, numberIn}
+use Rattle.decimal.proofs.Cases.{pick-some, pick-none}
 use Rattle.decimal.proofs.Reading.{number-value, number-none, number-small}
 use Rattle.decimal.specs.declared.Number.the-variants.{Value as Number, NotANumber as NoNumber}
 use Rattle.listing.specs.Line.{part, lastPart, hasMinus, unsigned, signed, signIn, isLine, requestIn, lineIn}
@@ -45,21 +46,19 @@ module _ (w u : List ℕ) (b : Bool) (sign : hasMinus w ≡ b) (rest : pick b (d
   unfolding signIn signed
   sign-is n z e h = rw (sign, unsigned-is, number-value u n e .0, ← number-value u n e .1, h)
 
-sign-of : (b : Bool) (y z : ℤ) → pick b (Value y) NotANumber ≡ Value z → (b ≡ true) × (z ≡ y)
-sign-of true y z e = (refl, cc)
-sign-of false y z e = let n : _≡_ {A = ℕ} 0 1 = cc in absurd (omega arith)
+apart : (z : ℤ) → Value z ≡ NotANumber → ⊥
+apart z e = let n : _≡_ {A = ℕ} 0 1 = cc in omega arith
 
-none-of : (b : Bool) (y : ℤ) → pick b (Value y) NotANumber ≡ NotANumber → b ≡ false
-none-of true y e = let n : _≡_ {A = ℕ} 0 1 = cc in absurd (omega arith)
-none-of false y e = refl
+same : (y z : ℤ) → Value y ≡ Value z → y ≡ z
+same y z e = cc
 
 pub sign-value : (w : List ℕ) (z : ℤ) → signIn w ≡ Value z → (isNumber (unsigned w) ≡ true) × (z ≡ signed w)
 unfolding signIn
-sign-value w z e = sign-of (isNumber (unsigned w)) (signed w) z e
+sign-value w z e = pick-some Value NotANumber apart same (isNumber (unsigned w)) (signed w) z e
 
 pub sign-none : (w : List ℕ) → signIn w ≡ NotANumber → isNumber (unsigned w) ≡ false
 unfolding signIn
-sign-none w e = none-of (isNumber (unsigned w)) (signed w) e
+sign-none w e = pick-none Value NotANumber apart same (isNumber (unsigned w)) (signed w) e
 
 pub illegal : (l : List ℕ) → isLine l ≡ false → Illegal ≡ lineIn l
 unfolding lineIn

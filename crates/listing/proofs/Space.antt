@@ -1,30 +1,29 @@
 -- The space that a listing takes at most.
 -- Assumes nothing.
 use Prim.Native.Nat.{ℕ, zero, suc, _+_, _*_, _≤_, _<_}
-use mathlib.Core.Bool.{Bool, true, false, _&&_}
+use mathlib.Core.Bool.{Bool, true, false}
 use mathlib.Core.List.{List, _++_}
-use mathlib.Core.Path.{_≡_, refl, sym, ap, _∙_}
+use mathlib.Core.Path.{_≡_, refl, ap, _∙_}
 use native.Mathlib.Omega.{arith}
 use lib.Dec.{eqb}
 use lib.IntN.{ℤ, pos, negsuc}
 use lib.ListN.{length, drop}
 use borrow.Author.Tests.{eqb-true, le-leb}
 use Rattle.bits.specs.Bits.{pick}
-use Rattle.calendar.specs.Calendar.{minuteCount}
 use Rattle.decimal.proofs.Laws.{width-small}
-use Rattle.plan.specs.Plan.{legalPlan, legalLeap, lengthAt}
+use Rattle.plan.specs.Plan.{legalPlan, legalLeap}
 use Rattle.plan.specs.declared.Plan.{Plan}
 use Rattle.plan.proofs.Rows.{leap-legal}
 use Rattle.recording.specs.Writing.{frames, seconds}
 use Rattle.recording.specs.Demand.{any, isLeapMinute, plus, bitsSent}
 use Rattle.recording.proofs.Seconds.{seconds-sent}
 use Rattle.listing.specs.Line.{firstLine, isLine, requestIn}
-use Rattle.listing.specs.Listing.{frameLines, framesText, refusedText, refusalOf, answerText, listing}
+use Rattle.listing.specs.Listing.{framesText, refusedText, refusalOf, answerText, listing}
 use Rattle.listing.specs.Answer.{ListOutcome, putInto}
 use Rattle.listing.specs.Theorems.{listingSpace, SpaceIsEnough}
 use Rattle.listing.specs.declared.line.Request.{Request}
 use Rattle.listing.proofs.Asking.{accepted, refusal-small}
-use Rattle.listing.proofs.Texts.{lineOf, linesOf, lines-seconds, length-frames, length-refused}
+use Rattle.listing.proofs.Texts.{lines-seconds, length-frames, length-refused}
 
 -- a leap second more at most
 plus-small : (x m : ℕ) (z : ℤ) → legalLeap z m ≡ true → plus x z ≤ x + 1

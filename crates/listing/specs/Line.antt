@@ -9,7 +9,6 @@ use lib.ListN.{take, drop, getD}
 use Rattle.bits.specs.Bits.{pick}
 use Rattle.bytes.specs.Bytes.{indexOf}
 use Rattle.decimal.specs.Decimal.{value, isNumber}
-use Rattle.plan.specs.declared.Plan.{Plan}
 use Rattle.listing.specs.declared.line.Request.{Request}
 use Rattle.listing.specs.declared.line.Line.{Line}
 use Rattle.listing.specs.declared.line.Line.the-variants.{Numbers, Illegal}
