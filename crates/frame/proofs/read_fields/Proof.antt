@@ -11,7 +11,7 @@ use lib.Dec.{eqb}
 use lib.ListN.{length, take, drop}
 use Rattle.bits.specs.Bits.{bits, number, isZero, all}
 use Rattle.codewords.specs.CodeWords.{rowOf, rowAnswer}
-use Rattle.codewords.proofs.Answers.{row-assigned}
+use Rattle.codewords.proofs.Rows.{assigned-is}
 use Rattle.timeword.specs.TimeWord.{reading}
 use Rattle.timeword.specs.declared.Corrected.{Corrected}
 use Rattle.frame.specs.Frame.{wordIn}
@@ -48,7 +48,7 @@ module _ (k : tie.After-known-told) where
   row = k .before .found .given .0 .0
 
   row-found : (row ≡ at r′ (reading (bits 31 (number (wordIn (bits 59 (x r′)))))) .row) × (row < 52)
-  row-found = row-assigned _ _ row (ap rowAnswer (sym (k .before .found .given .1)) ∙ r′ .read-row .ensures)
+  row-found = assigned-is row _ _ (ap rowAnswer (sym (k .before .found .given .1)) ∙ r′ .read-row .ensures)
 
 module _ (d : tie.After-decode) where
   abbrev k′ : tie.After-known-told
