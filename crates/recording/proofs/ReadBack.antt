@@ -20,9 +20,9 @@ use Rattle.frame.proofs.Legal.{legal-sent}
 use Rattle.frame.proofs.One.{one-read}
 use Rattle.frame.proofs.RoundTrip.{single-round-trip}
 use Rattle.recording.specs.Writing.{recording, seconds, writeRefusal, writeResult, bufferWritten}
-use Rattle.recording.specs.Reading.{Found, readRecording, readInto, follows}
+use Rattle.recording.specs.Reading.{Found, readRecording, readInto, follows, secondsOf}
 use Rattle.recording.specs.Demand.{isPlace, SpaceEnough, recorded, sentEntries, bitsSent, noPlaces, Sending, AsSent}
-use Rattle.recording.specs.RoundTrip.{ReadsBack, totalLength, SumsFor, LengthsSum, WrittenFor, WrittenReadsBack, SingleReadsBack}
+use Rattle.recording.specs.RoundTrip.{ReadsBack, SumsFor, LengthsSum, WrittenFor, WrittenReadsBack, SingleReadsBack}
 use Rattle.recording.specs.declared.Due.the-variants.{Any}
 use Rattle.recording.proofs.RoundTrip.{sentFound, trip, nothing-inverted, read-as-sent}
 use Rattle.recording.proofs.Seconds.{seconds-sent}
@@ -41,8 +41,8 @@ reads-back p m n buffer legal range space =
 
 -- ---- the sums
 
-total-sent : (p : Plan) (m : ℕ) (is : List ℕ) → totalLength (sentEntries p m is) ≡ seconds p m (length is)
-unfolding totalLength sentEntries sentEntry sentBy seconds
+total-sent : (p : Plan) (m : ℕ) (is : List ℕ) → secondsOf (sentEntries p m is) ≡ seconds p m (length is)
+unfolding secondsOf sentEntries sentEntry sentBy seconds
 total-sent p m [] = refl
 total-sent p m (i ∷ is) = ap₂ _+_ refl (total-sent p (suc m) is)
 

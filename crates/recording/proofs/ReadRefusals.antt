@@ -18,8 +18,8 @@ use Rattle.frame.specs.Refusals.{answer, AllYes, FirstNo, chosen, lengthCalled,
 use Rattle.frame.proofs.Chain.{chain, chain-map, chain-append, ascending, Verdict, verdict, all-yes, first-no, chain-yes, chain-no, no-range}
 use Rattle.frame.proofs.Refusals.{by-questions}
 use Rattle.frame.proofs.Accepted.{seconds-59}
-use Rattle.recording.specs.Reading.{Found, stop, add, start, after, follows, onward, readFrames, readRecording, Outcome, outcome, readInto}
-use Rattle.recording.specs.Refusals.{secondsOf, behind, question14, nextQuestions, Read, none, more, Ends, RecordingRead, RecordingOnly, RecordingAccepted, RecordingRefused, RecordingAnswers}
+use Rattle.recording.specs.Reading.{Found, stop, add, start, after, follows, onward, readFrames, readRecording, Outcome, outcome, readInto, secondsOf}
+use Rattle.recording.specs.Refusals.{behind, question14, nextQuestions, Read, none, more, Ends, RecordingRead, RecordingOnly, RecordingAccepted, RecordingRefused, RecordingAnswers}
 use Rattle.recording.specs.declared.Due.{Due}
 use Rattle.recording.proofs.Resume.{length-bytes}
 use Rattle.recording.proofs.Steps.{ended, no-space, step}

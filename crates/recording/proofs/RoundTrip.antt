@@ -27,6 +27,7 @@ use Rattle.recording.specs.Demand.{atRank, isPlace, invertEach, recorded
 use Rattle.recording.specs.declared.Due.{Due}
 use Rattle.recording.specs.declared.Due.the-variants.{Any, Minute}
 use Rattle.recording.proofs.Steps.{ended, frame-read}
+use Rattle.recording.proofs.Resume.{length-bytes}
 use Rattle.recording.proofs.Seconds.{seconds-sent}
 use Rattle.recording.proofs.Sums.{length-recording}
 use Rattle.recording.proofs.Tails.{length-rest}
@@ -35,18 +36,12 @@ use Rattle.recording.proofs.Tails.{length-rest}
 unfoldable pub sentFound : Plan → ℕ → List ℕ → Found
 sentFound p m is = record { entries = sentEntries p m is; used = seconds p m (length is); refusal = 0 }
 
-length-sent : (p : Plan) (m : ℕ) (is : List ℕ) → length (sentEntries p m is) ≡ length is
+pub length-sent : (p : Plan) (m : ℕ) (is : List ℕ) → length (sentEntries p m is) ≡ length is
 unfolding sentEntries
 length-sent p m [] = refl
 length-sent p m (i ∷ is) = ap suc (length-sent p (suc m) is)
 
--- entries take 12 bytes each
-length-bytes : (es : List Entry) → length (bytesOf es) ≡ 12 * length es
-unfolding bytesOf concat entryBytes
-length-bytes [] = refl
-length-bytes (e ∷ es) = omega (arith, length-bytes es)
-
-follows-self : (m : ℕ) → follows (Minute m) m ≡ true
+pub follows-self : (m : ℕ) → follows (Minute m) m ≡ true
 unfolding follows
 follows-self m = eq-eqb m m refl
 
@@ -56,7 +51,7 @@ module _ (p : Plan) (legal : legalPlan p ≡ true) where
   outcome-sent m is buffer = rw (length-bytes (sentEntries p m is), length-sent p m is, seconds-sent p legal m (length is))
 
   -- the first frame of a recording, and the rest
-  first-round-trip : (m i : ℕ) → m < minuteCount → i ≤ 31 → (n : ℕ) (due : Due) → follows due m ≡ true → (rest : List ℕ)
+  pub first-round-trip : (m i : ℕ) → m < minuteCount → i ≤ 31 → (n : ℕ) (due : Due) → follows due m ≡ true → (rest : List ℕ)
       → readFrames (suc n) due (inverted i (frame (sentBy p m)) ++ rest) ≡ add (sentEntry (sentBy p m) i) (readFrames n (Minute (suc m)) rest)
   first-round-trip m i h l n due d rest =
       let s : Sent = sentBy p m in

@@ -59,6 +59,11 @@ readFrames (suc n) due (b ∷ f) = onward due (b ∷ f) (readFrame false (b ∷ 
 unfoldable pub readRecording : ℕ → List ℕ → Found
 readRecording space f = readFrames (space / entrySize) start f
 
+-- the bits of entries, the sum of their lengths
+unfoldable pub secondsOf : List Entry → ℕ
+secondsOf [] = 0
+secondsOf (e ∷ es) = e .seconds + secondsOf es
+
 -- the bytes of the entries
 unfoldable pub bytesOf : List Entry → List ℕ
 bytesOf es = concat (map entryBytes es)

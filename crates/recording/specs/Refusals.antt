@@ -13,7 +13,7 @@ use Rattle.frame.specs.Entry.{Entry}
 use Rattle.frame.specs.Reading.{entryOf}
 use Rattle.frame.specs.Refusals.{Question, AllYes, FirstNo, chosen, question5, frameQuestions}
 use Rattle.recording.specs.Writing.{recording, seconds, writeResult, bufferWritten}
-use Rattle.recording.specs.Reading.{bytesOf, Outcome, readInto}
+use Rattle.recording.specs.Reading.{secondsOf, bytesOf, Outcome, readInto}
 
 -- ---- writing n minutes of plan p from m on into so many bytes
 
@@ -68,11 +68,6 @@ WriteUndone =
     → (writeResult p m n (length buffer) .bits ≡ 0) × (bufferWritten p m n buffer ≡ buffer)
 
 -- ---- reading a recording f with so many entry bytes
-
--- the bits of entries
-unfoldable pub secondsOf : List Entry → ℕ
-secondsOf [] = 0
-secondsOf (e ∷ es) = e .seconds + secondsOf es
 
 -- the bits of f behind those of the entries es
 abbrev pub behind : List ℕ → List Entry → List ℕ

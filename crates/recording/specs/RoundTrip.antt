@@ -2,7 +2,7 @@
 -- Assumes nothing.
 use Prim.Native.Nat.{ℕ, _+_, _*_, _≤_, _<_}
 use mathlib.Core.Bool.{true}
-use mathlib.Core.List.{List, [], _∷_, _++_}
+use mathlib.Core.List.{List, _++_}
 use mathlib.Core.Path.{_≡_}
 use lib.ListN.{length, take, drop}
 use Rattle.calendar.specs.Calendar.{minuteCount}
@@ -10,10 +10,10 @@ use Rattle.plan.specs.Plan.{legalPlan}
 use Rattle.plan.specs.declared.Plan.{Plan}
 use Rattle.frame.specs.Frame.{sentBy, frame}
 use Rattle.frame.specs.Inverting.{inverted}
-use Rattle.frame.specs.Entry.{Entry, entrySize, entryBytes, sentEntry}
+use Rattle.frame.specs.Entry.{entrySize, entryBytes, sentEntry}
 use Rattle.frame.specs.Reading.{OneOutcome, readOne}
 use Rattle.recording.specs.Writing.{recording, seconds, writeRefusal, writeResult, bufferWritten}
-use Rattle.recording.specs.Reading.{readRecording, readInto}
+use Rattle.recording.specs.Reading.{secondsOf, readRecording, readInto}
 use Rattle.recording.specs.Demand.{isPlace, SpaceEnough, bitsSent, noPlaces, AsSent}
 
 -- every recording of a legal plan, minutes of 59, 60 and 61 seconds alike, reads back as sent, with nothing inverted
@@ -22,14 +22,9 @@ ReadsBack =
     (p : Plan) (m n : ℕ) (buffer : List ℕ) → legalPlan p ≡ true → m + n ≤ minuteCount → SpaceEnough n buffer
     → AsSent (readInto buffer (recording p m n)) p m n (noPlaces n) buffer
 
--- the sum of the entries' lengths
-unfoldable pub totalLength : List Entry → ℕ
-totalLength [] = 0
-totalLength (e ∷ es) = e .seconds + totalLength es
-
 -- the lengths of its entries, the bits used and the bits written: 60 for each minute, plus the signed leap step where it is among them
 pub record SumsFor (p : Plan) (m n space : ℕ) : Type 0 where
-  pub lengths : totalLength (readRecording space (recording p m n) .entries) ≡ bitsSent p m n
+  pub lengths : secondsOf (readRecording space (recording p m n) .entries) ≡ bitsSent p m n
   pub used : readRecording space (recording p m n) .used ≡ bitsSent p m n
   pub written : seconds p m n ≡ bitsSent p m n
 
