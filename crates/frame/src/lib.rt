@@ -1,17 +1,17 @@
 // One frame: its bits from its fields, writing it, reading it, and its entry.
+mod layout;
+
 ghost use mathlib.Core.Path.{_≡_};
 ghost use mathlib.Core.Bool.{true, _&&_};
 ghost use mathlib.Core.List.{_++_};
-ghost use Prim.Native.Nat.{_+_, _-_, _*_, _/_, _%_, _^_, _≤_, _<_};
-ghost use lib.ListN.{length, take, drop, getD};
+ghost use Prim.Native.Nat.{_+_, _-_, _*_, _/_, _%_, _≤_, _<_};
+ghost use lib.ListN.{length, take, drop};
 ghost use Rattle.bits.specs.Bits.{bits, number, pick, isZero, all};
-ghost use lib.Dec.{eqb};
 ghost use Rattle.calendar.specs.Calendar.{dayCount, minuteCount, lastOfMonth};
-ghost use Rattle.timeword.specs.TimeWord.{codeWord};
-ghost use Rattle.codewords.specs.CodeWords.{leapNumber, stateNumber, stateOf, stateWords};
+ghost use Rattle.codewords.specs.CodeWords.{leapNumber, stateNumber, stateOf};
 ghost use Rattle.plan.specs.Plan.{legalPlan, lengthAt};
-ghost use Rattle.frame.specs.Frame.{sentBy, body, bodyOf, frame, wordIn, stateIn, nextIn};
-ghost use Rattle.frame.specs.Sending.{timePart, dayPart, dayWord};
+ghost use Rattle.frame.specs.Frame.{sentBy, frame, stateIn};
+ghost use Rattle.frame.specs.Sending.{dayWord};
 ghost use Rattle.frame.specs.Entry.{entryBytes};
 ghost use Rattle.frame.specs.Reading.{secondsFor, enough, entryOf, askFields, readFrame, readOne};
 ghost use Rattle.frame.specs.Answer.{refusalNumber, entryFrom, frameNumbers, endNumber, endOutcome};
@@ -94,32 +94,10 @@ impl End {
 // The bytes of an entry.
 pub const ENTRY_SIZE: usize = 12;
 
-// The synchronization word, bits 0 to 12.
-const SYNC: u64 = 0b0011101101000;
-
 // The bits of every frame but 59 and 60.
 const BODY: usize = 59;
 
 // ---- writing
-
-// Bits 0 to 46 of a frame, as a number, from its time word and echo.
-fn time_part(time: u64, echo: u64) -> u64
-    requires { ⌜ («time» < 2 ^ 31) × (echo < 2) ⌝ }
-    ensures { λ r. ⌜ r ≡ number (timePart (bits 31 «time») echo) ⌝ }
-{
-    let a = (SYNC * 64 + time / 0x200_0000) * 2 + echo;
-    let b = a * 512 + time / 0x1_0000 % 512;
-    let c = b * 1024 + time / 128 % 512;
-    c * 256 + time % 128
-}
-
-// Bits 47 to 58 of a frame, as a number, from its state word, notice and next-change word.
-fn day_part(state: u64, notice: u64, next: u64) -> u64
-    requires { ⌜ (state < 32) × (notice < 2) × (next < 64) ⌝ }
-    ensures { λ r. ⌜ r ≡ number (dayPart (bits 5 state) notice (bits 6 next)) ⌝ }
-{
-    ((state / 8 * 2 + notice) * 8 + state % 8) * 64 + next
-}
 
 // Bits 47 to 58 of the frames of a day, as a number.
 pub fn day_word(plan: Plan, day: u32) -> u64
@@ -130,7 +108,7 @@ pub fn day_word(plan: Plan, day: u32) -> u64
     let daylight = state.daylight;
     let next = codewords::next_word(plan.row_for(daylight)) as u64;
     let state = codewords::state_word(state) as u64;
-    day_part(state, plan.notice as u64, next)
+    layout::day_part(state, plan.notice as u64, next)
 }
 
 // Writes the frame of a minute to the front of out, from the bits of its day; gives its length.
@@ -140,28 +118,13 @@ pub fn write_frame(plan: Plan, minute: u32, day: u64, out: &mut [u8]) -> usize
 {
     let time = timeword::encode(minute) as u64;
     let echo = (minute % 2) as u64;
-    let word = time_part(time, echo) * 4096 + day;
+    let word = layout::time_part(time, echo) * 4096 + day;
     let length = plan.length(minute) as usize;
     bits::spread(word << (length - BODY), &mut out[..length]);
     length
 }
 
 // ---- reading
-
-// The time word in the bits 0 to 58 of a frame.
-fn time_word(word: u64) -> u32
-    ensures { λ r. ⌜ r ≡ number (wordIn (bits 59 word)) ⌝ }
-{
-    let high = (word >> 40) % 64 * 512 + (word >> 30) % 512;
-    let low = (word >> 20) % 512 * 128 + (word >> 12) % 128;
-    (high * 0x1_0000 + low) as u32
-}
-
-fn state_bits(word: u64) -> u8
-    ensures { λ r. ⌜ r ≡ number (stateIn (bits 59 word)) ⌝ }
-{
-    ((word >> 10) % 4 * 8 + (word >> 6) % 8) as u8
-}
 
 // The seconds of a minute, where the last minute of a month has the given number.
 fn seconds_with(last: u8, minute: u32) -> u8
@@ -202,17 +165,6 @@ fn ends_right(frame: &[u8], alone: bool, seconds: usize) -> bool
     bits::is_zero(&frame[BODY..seconds])
 }
 
-// 1 where the echo in a frame equals the minute's time[0].
-fn echo_right(word: u64, minute: u32) -> u8
-    ensures { λ r. ⌜ r ≡ pick (eqb (getD (bits 59 word) 19 0) («minute» % 2)) 1 0 ⌝ }
-{
-    if (word >> 39) % 2 == (minute % 2) as u64 {
-        1
-    } else {
-        0
-    }
-}
-
 // Questions 10 to 13, of a frame whose first 59 bits and state are read.
 fn read_fields(frame: &[u8], alone: bool, word: u64, state: State) -> FrameAnswer
     requires { ⌜ (take 59 (now frame) ≡ bits 59 word) × (stateNumber state ≡ stateOf (number (stateIn (now frame)))) ⌝ }
@@ -223,13 +175,13 @@ fn read_fields(frame: &[u8], alone: bool, word: u64, state: State) -> FrameAnswe
     let RowAnswer::Assigned(row) = found else {
         return FrameAnswer::Refused(Refusal::NextWord);
     };
-    let time = timeword::decode(time_word(word));
+    let time = timeword::decode(layout::time_word(word));
     let minute = time.minute;
     let place = time.place;
     if Date::MINUTES <= minute {
         return FrameAnswer::Refused(Refusal::Minute);
     }
-    let echo = echo_right(word, minute);
+    let echo = layout::echo_right(word, minute);
     if place != 0 {
         if echo != 1 {
             return FrameAnswer::Refused(Refusal::Echo);
@@ -263,10 +215,10 @@ pub fn read_frame(frame: &[u8], alone: bool) -> FrameAnswer
     let Gathered::Word(word) = gathered else {
         return FrameAnswer::Refused(Refusal::NotBits);
     };
-    if word >> 46 != SYNC {
+    if word >> 46 != layout::SYNC {
         return FrameAnswer::Refused(Refusal::Sync);
     }
-    let answer = codewords::read_state(state_bits(word));
+    let answer = codewords::read_state(layout::state_bits(word));
     match answer {
         StateAnswer::Legal(state) => read_fields(frame, alone, word, state),
         StateAnswer::Illegal => FrameAnswer::Refused(Refusal::StateWord),

@@ -1,9 +1,9 @@
 -- The days of the changes: Sundays, in their order, each in its year.
 -- Assumes nothing.
-use Prim.Native.Nat.{ℕ, _+_, _%_, _<_}
+use Prim.Native.Nat.{ℕ}
 use mathlib.Core.Path.{_≡_, refl, ap}
 use native.Mathlib.Omega.{arith}
-use Rattle.calendar.specs.Calendar.{yearCount, yearLengths, yearOfDay, monthStart}
+use Rattle.calendar.specs.Calendar.{yearLengths, yearOfDay, monthStart}
 use Rattle.calendar.specs.declared.Place.{Place}
 use Rattle.calendar.proofs.Walk.{Lies, walk-at}
 use Rattle.calendar.proofs.Years.{length-years}

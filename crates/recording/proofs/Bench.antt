@@ -14,7 +14,7 @@ use Rattle.frame.specs.Frame.{sentBy, sync, body, bodyOf, frame, wordIn, stateI
 use Rattle.frame.specs.Inverting.{from, framePlaces, flip, invertAt, inverted}
 use Rattle.frame.specs.Entry.{Entry}
 use Rattle.frame.specs.Reading.{refused, entry, ask, secondsFor, enough, entryOf, askFields, readFrame}
-use Rattle.recording.specs.Bench.{IsDate, IsDay, DaylightStates, Lengths, LeapNumbers, standard, frame0, withState, BenchTable}
+use Rattle.recording.specs.Bench.{IsDate, DaylightStates, Lengths, LeapNumbers, standard, frame0, withState, BenchTable}
 
 -- dates
 abbrev Dates : Type 0

@@ -1,12 +1,12 @@
 -- What the sender writes reads back as sent, with nothing inverted; and one frame alone.
 -- Assumes nothing.
-use Prim.Native.Nat.{ℕ, zero, suc, _+_, _*_, _/_, _≤_, _<_}
+use Prim.Native.Nat.{ℕ, zero, suc, _+_, _*_, _/_, _≤_}
 use mathlib.Core.Bool.{Bool, true, false, _&&_}
-use mathlib.Core.List.{List, [], _∷_, _++_}
-use mathlib.Core.Path.{_≡_, refl, sym, ap, ap₂, _∙_}
+use mathlib.Core.List.{List, [], _∷_}
+use mathlib.Core.Path.{_≡_, refl, sym, ap₂}
 use native.Mathlib.Omega.{arith}
 use lib.Dec.{leb}
-use lib.ListN.{length, take, drop, replicate, length-replicate}
+use lib.ListN.{length, take, drop, length-replicate}
 use lib.Seq.{take-at}
 use borrow.Author.Tests.{leb-true}
 use Rattle.bits.specs.Bits.{pick, all}
@@ -15,13 +15,13 @@ use Rattle.plan.specs.Plan.{legalPlan}
 use Rattle.plan.specs.declared.Plan.{Plan}
 use Rattle.frame.specs.Frame.{sentBy, frame}
 use Rattle.frame.specs.Inverting.{inverted}
-use Rattle.frame.specs.Entry.{entryBytes, sentEntry}
+use Rattle.frame.specs.Entry.{sentEntry}
 use Rattle.frame.proofs.Legal.{legal-sent}
 use Rattle.frame.proofs.One.{one-read}
 use Rattle.frame.proofs.RoundTrip.{single-round-trip}
 use Rattle.recording.specs.Writing.{recording, seconds, writeRefusal, writeResult, bufferWritten}
-use Rattle.recording.specs.Reading.{Found, readRecording, readInto, follows, secondsOf}
-use Rattle.recording.specs.Demand.{isPlace, SpaceEnough, recorded, sentEntries, bitsSent, noPlaces, Sending, AsSent}
+use Rattle.recording.specs.Reading.{readRecording, follows, secondsOf}
+use Rattle.recording.specs.Demand.{isPlace, SpaceEnough, recorded, sentEntries, bitsSent, noPlaces}
 use Rattle.recording.specs.RoundTrip.{ReadsBack, SumsFor, LengthsSum, WrittenFor, WrittenReadsBack, SingleReadsBack}
 use Rattle.recording.specs.declared.Due.the-variants.{Any}
 use Rattle.recording.proofs.RoundTrip.{sentFound, trip, nothing-inverted, read-as-sent}

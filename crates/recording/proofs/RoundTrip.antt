@@ -17,12 +17,12 @@ use Rattle.plan.specs.Plan.{legalPlan}
 use Rattle.plan.specs.declared.Plan.{Plan}
 use Rattle.frame.specs.Frame.{Sent, sentBy, frame}
 use Rattle.frame.specs.Inverting.{inverted}
-use Rattle.frame.specs.Entry.{Entry, entryBytes, sentEntry}
+use Rattle.frame.specs.Entry.{entryBytes, sentEntry}
 use Rattle.frame.proofs.Inverting.{inverts-one-bit}
 use Rattle.frame.proofs.Legal.{Legal, legal-sent, long}
 use Rattle.frame.proofs.RoundTrip.{frame-round-trip, length-inverted}
 use Rattle.recording.specs.Writing.{frames, recording, seconds}
-use Rattle.recording.specs.Reading.{Found, stop, add, follows, readFrames, readRecording, bytesOf, Outcome, outcome, readInto}
+use Rattle.recording.specs.Reading.{Found, stop, add, follows, readFrames, readRecording, bytesOf, outcome, readInto}
 use Rattle.recording.specs.Demand.{atRank, isPlace, invertEach, recorded, sentEntries, bitsSent, sentOutcome, Sending, AsSent, noPlaces, NothingInverted, LengthsKept}
 use Rattle.recording.specs.declared.Due.{Due}
 use Rattle.recording.specs.declared.Due.the-variants.{Any, Minute}

@@ -6,7 +6,7 @@ use mathlib.Core.List.{List, [], _∷_, _++_, map}
 use mathlib.Core.Path.{_≡_}
 use lib.IntN.{ℤ, pos, negsuc}
 use lib.Seq.{sets}
-use Rattle.calendar.specs.Answer.{Numbers, dateOfMinute}
+use Rattle.calendar.specs.Answer.{dateOfMinute}
 use Rattle.timeword.specs.TimeWord.{parities}
 use Rattle.codewords.specs.CodeWords.{daylightNumber, leapNumber}
 use Rattle.plan.specs.Plan.{legalPlan, daylightAt, leapAt, lengthAt}

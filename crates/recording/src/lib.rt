@@ -3,7 +3,7 @@ ghost use mathlib.Core.Path.{_≡_};
 ghost use mathlib.Core.Bool.{true};
 ghost use mathlib.Core.List.{_++_};
 ghost use Prim.Native.Nat.{_+_, _*_, _≤_, _<_};
-ghost use lib.ListN.{length, take, drop};
+ghost use lib.ListN.{length, drop};
 ghost use Rattle.calendar.specs.Calendar.{minuteCount};
 ghost use Rattle.plan.specs.Plan.{legalPlan};
 ghost use Rattle.recording.specs.Writing.{recording, seconds, writeResult, bufferWritten, writeRefusalNumber, writeNumbers};

@@ -1,10 +1,10 @@
--- `frame::time_part` meets its contract.
+-- `frame::layout::time_part` meets its contract.
 -- Assumes nothing.
 use native.Mathlib.Omega.{arith}
 use Rattle.frame.proofs.Sending.{time-part-number}
 use borrow.Author.Needs.{needs}
-use Rattle.frame.proofs.time_part.Statement.{statement}
-use Rattle.frame.proofs.time_part.Tie as tie
+use Rattle.frame.proofs.layout.time_part.Statement.{statement}
+use Rattle.frame.proofs.layout.time_part.Tie as tie
 
 mul-a : tie.Need-mul-a
 mul-a c = search needs

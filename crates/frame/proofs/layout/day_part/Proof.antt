@@ -1,10 +1,10 @@
--- `frame::day_part` meets its contract.
+-- `frame::layout::day_part` meets its contract.
 -- Assumes nothing.
 use mathlib.Core.Path.{sym}
 use Rattle.frame.proofs.Sending.{day-part-number}
 use borrow.Author.Needs.{needs}
-use Rattle.frame.proofs.day_part.Statement.{statement}
-use Rattle.frame.proofs.day_part.Tie as tie
+use Rattle.frame.proofs.layout.day_part.Statement.{statement}
+use Rattle.frame.proofs.layout.day_part.Tie as tie
 
 mul-result : tie.Need-mul-result
 mul-result c = search needs
