@@ -92,7 +92,6 @@ pub frame-bits : (s : Sent) (w n : ℕ) → s .notice ≤ 1 → w ≡ number (bo
     → bits n ((w * 2 ^ (n - 59)) % 2 ^ 64) ≡ frame s
 unfolding frame
 frame-bits s w n h e en lo hi =
-    let k : ℕ = n - 59 in
     let l : w < 2 ^ 59 = rw e (body-lt s h) in
     let sum : 59 + (n - 59) ≡ n = omega arith in
     let b : bits 59 w ≡ bodyOf s = rw e (bits-take (bodyOf s) 59 (bodyOf-binary s h) (bodyOf-length s)) in
@@ -147,7 +146,6 @@ body-sent p m = rw (← code-bits m)
 pub day-word-is : (p : Plan) (day s x : ℕ) → s ≡ stateWordAt p (day * 1440) → x ≡ nextWordAt p (day * 1440) → number (dayPart (bits 5 s) (p .notice) (bits 6 x)) ≡ dayWord p day
 unfolding dayWord
 day-word-is p day s x es ex =
-    let m : ℕ = day * 1440 in
     rw (es, ex, body-sent p (day * 1440), day-of-body (number (codeWord (day * 1440))) ((day * 1440) % 2) (stateWordAt p (day * 1440)) (p .notice) (nextWordAt p (day * 1440)))
 
 -- bits 0 to 58 from the two parts
