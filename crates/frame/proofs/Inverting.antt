@@ -14,7 +14,7 @@ use borrow.Author.Tests.{eqb-true, not-true, eq-eqb, ne-eqb, le-leb}
 use Rattle.bits.specs.Bits.{pick, isBit, all}
 use Rattle.bits.proofs.Tests.{and-true, head-true, tail-true, is-true, upto-at}
 use Rattle.timeword.specs.TimeWord.{invert, codeWord, reading}
-use Rattle.timeword.proofs.Correct.{correct, received-codeWord}
+use Rattle.timeword.proofs.Correct.{one-place-corrected, received-codeWord}
 use Rattle.frame.specs.Inverting.{flip, invertAt, from, timeNumbers, framePlaces, EqualFrames, inverted, InvertsOneBit}
 
 untouched : (i k : ℕ) (w : List ℕ) → i ≤ k → invertAt i (from (suc k) (length w)) w ≡ w
@@ -39,7 +39,7 @@ pub read-inverted : (m i : ℕ) → m < 2 ^ 26 → i ≤ 31 → reading (invertA
 read-inverted m i h l =
     let e : invertAt i (from 1 31) (codeWord m) ≡ invert i (codeWord m) =
     rw (received-codeWord m .0, zero-add i) at (same-invert 0 i (codeWord m)) in
-    rw e (correct m i h (omega arith))
+    rw e (one-place-corrected m i h (omega arith))
 
 bit-flip : (i p b : ℕ) → isBit b ≡ true → isBit (flip i p b) ≡ true
 unfolding flip isBit

@@ -9,7 +9,7 @@ use lib.ListN.{length, getD}
 use borrow.Author.Tests.{leb-true}
 use Rattle.bits.proofs.Tests.{all-at}
 use Rattle.timeword.specs.TimeWord.{codeWord, reading}
-use Rattle.timeword.proofs.Distance.{distance-3}
+use Rattle.timeword.proofs.Distance.{three-places-apart}
 use Rattle.plan.specs.declared.Plan.{Plan}
 use Rattle.frame.specs.Frame.{Sent, sentBy, frame, wordIn}
 use Rattle.frame.specs.Inverting.{timeBits, inverted}
@@ -53,7 +53,7 @@ read-at p m n is buffer s k h =
 pub demand-3 : Demand3
 demand-3 p q a b n is js buffer buffer′ s t ne =
     record {
-      apart = λ k h. rw (bits-at p a n k h, bits-at q b n k h) (distance-3 (a + k) (b + k) (omega arith) (omega arith) (λ e. ne (omega arith)));
+      apart = λ k h. rw (bits-at p a n k h, bits-at q b n k h) (three-places-apart (a + k) (b + k) (omega arith) (omega arith) (λ e. ne (omega arith)));
       unequal = λ k h same.
           ne
           (omega (

@@ -115,9 +115,9 @@ module _ (x y : ℕ → ℕ) (hx : (j : ℕ) → isBit (x j) ≡ true) (hy : (j 
             ∙ sym (step m due f g)
       ]
 
-pub unread : UnreadBitsChangeNothing
+pub unread-bits-change-nothing : UnreadBitsChangeNothing
 unfolding readInto readRecording
-unread x y hx hy n buffer f b = ap (outcome buffer) (unread-each x y hx hy (length buffer / 12) n 0 start f b)
+unread-bits-change-nothing x y hx hy n buffer f b = ap (outcome buffer) (unread-each x y hx hy (length buffer / 12) n 0 start f b)
 
-pub unread-one : UnreadBitsOfOneFrame
-unread-one x y hx hy buffer f h29 h39 = one-unread x y hx hy buffer f h29 h39
+pub unread-bits-of-one-frame : UnreadBitsOfOneFrame
+unread-bits-of-one-frame x y hx hy buffer f h29 h39 = one-unread x y hx hy buffer f h29 h39

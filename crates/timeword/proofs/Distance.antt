@@ -13,7 +13,7 @@ use Rattle.bits.specs.Bits.{pick, Binary}
 use Rattle.timeword.specs.TimeWord.{invert, distance, codeWord, Received, reading}
 use Rattle.timeword.specs.Theorems.{Near, ThreePlacesApart, OneCodeWordNear, ReadsTheNear}
 use Rattle.timeword.specs.declared.Corrected.{Corrected}
-use Rattle.timeword.proofs.Correct.{received-codeWord, reading-right, correct, inverted-only}
+use Rattle.timeword.proofs.Correct.{received-codeWord, reading-right, one-place-corrected, inverted-only}
 
 -- place p of w, as a place of a word that has one more bit in front
 next : ℕ → ℕ
@@ -87,8 +87,8 @@ near-2 (a ∷ w) (b ∷ v) x y l d = go (eqb a b) refl d (near-2 w v (x .1) (y .
         )
 
 -- two code words within two places of each other would share a word that both read
-pub distance-3 : ThreePlacesApart
-distance-3 m n hm hn ne = lt-of-not-le (λ d. ne (same-minute d))
+pub three-places-apart : ThreePlacesApart
+three-places-apart m n hm hn ne = lt-of-not-le (λ d. ne (same-minute d))
   where
     cm : Received (codeWord m)
     cm = received-codeWord m
