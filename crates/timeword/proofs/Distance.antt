@@ -131,4 +131,4 @@ one-code-word-near w h = (reading w .minute, reads-the-near w h .0, only)
     only n near =
         let c : Received (codeWord n) = received-codeWord n in
         let s = near-1 w (codeWord n) (h .1) (c .1) (h .0 ∙ sym (c .0)) (near .1) in
-        sym (ap (λ (v : List ℕ). reading v .minute) (s .2) ∙ ap (λ (r : Corrected). r .minute) (correct n (s .0) (near .0) (omega (arith, h .0, s .1))))
+        sym (ap (λ (v : List ℕ). reading v .minute) (s .2) ∙ ap (λ (r : Corrected). r .minute) (one-place-corrected n (s .0) (near .0) (omega (arith, h .0, s .1))))
