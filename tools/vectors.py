@@ -1,13 +1,18 @@
 #!/usr/bin/env python3
-"""What the program `vectors` has to write: a model of the WWVB phase code by itself, from document 01 and the tables of
-NIST's Enhanced WWVB Broadcast Format (Revision 1.0), in the plainest form and with Python's own calendar. It shares no
-code with the crates.
+"""What the program `vectors` reads, and what it has to write: a model of the WWVB phase code by itself, from document 01
+and the tables of NIST's Enhanced WWVB Broadcast Format (Revision 1.0), in the plainest form and with Python's own
+calendar. It shares no code with the crates.
+
+A case is a line of the program's input: a letter that says what is tried, numbers that are not printed, a space, a text,
+a `#`, and bytes to be read. The program prints the text, and behind it what the code gives; the model says what that is.
 
 usage: tools/vectors.py            prints the lines
-       tools/vectors.py --write    writes them to crates/vectors/stdout
+       tools/vectors.py --write    writes crates/vectors/stdin and crates/vectors/stdout
 """
 import datetime
+import functools
 import pathlib
+import re
 import sys
 
 LAST = 52_595_999
@@ -205,8 +210,32 @@ def read_recording(bits, buffer, space):
     return end(0)
 
 
+# ---- listing
+
+NUMBER = rb"([0-9]{1,9})"
+LINE = rb" ".join([NUMBER] * 4 + [rb"(-?[0-9]{1,9})"] + [NUMBER] * 3)
+
+
+def listing(data):
+    """What `station` prints for its input."""
+    match = re.fullmatch(LINE, data.split(b"\n")[0])
+    if not match:
+        return b"refused 1\n"
+    *plan, first, count = map(int, match.groups())
+    refusal, _ = write(plan, first, count, 1_000_000)
+    if refusal:
+        return b"refused %d\n" % refusal
+    rows = ((m, frame(plan, m)) for m in range(first, first + count))
+    return b"minute length frame\n" + b"".join(b"%d %d %s\n" % (m, len(f), digits(f).encode()) for m, f in rows)
+
+
+def check_sum(data):
+    return functools.reduce(lambda s, b: (s * 257 + b) % 4_294_967_291, data, 0)
+
+
 # ---- lines
 
+CASES = []
 LINES = []
 USUAL = (0, 10, 37, 0, 0, 0)
 LONG = (0, 10, 37, 149, 1, 0)
@@ -214,22 +243,42 @@ SHORT = (0, 10, 37, 149, -1, 0)
 JULY_4 = 6_578_970
 
 
-def line(*parts):
-    LINES.append(" ".join(str(p) for p in parts))
+def case(word, text, answer, given=""):
+    """The word is the letter and the numbers that are not printed."""
+    CASES.append(f"{word} {text}#{given}")
+    LINES.append(text + answer)
 
 
-def one(label, bits, n, space):
-    refusal, buffer = read_one(bits[:n], [7] * 14, space)
-    line(label + ":", refusal, "|", *buffer)
-
-
-def recording(label, bits, n, space):
-    count, used, refusal, buffer = read_recording(bits[:n], [7] * 38, space)
-    line(label + ":", count, used, refusal, "|", *buffer)
+def spaced(*parts):
+    return "".join(f" {p}" for p in parts)
 
 
 def digits(bits):
     return "".join(map(str, bits))
+
+
+def given(bits):
+    return "".join("x" if b == 255 else str(b) for b in bits)
+
+
+def entry_text(bits, space):
+    """What reading one frame gives."""
+    refusal, buffer = read_one(bits, [7] * 14, space)
+    return ":" + spaced(refusal, "|", *buffer)
+
+
+def entries_text(bits, space):
+    """What reading a recording gives."""
+    count, used, refusal, buffer = read_recording(bits, [7] * 38, space)
+    return ":" + spaced(count, used, refusal, "|", *buffer)
+
+
+def one(label, bits, n, space):
+    case(f"o{space}", label, entry_text(bits[:n], space), given(bits[:n]))
+
+
+def recording(label, bits, n, space):
+    case(f"a{space}", label, entries_text(bits[:n], space), given(bits[:n]))
 
 
 def plan_text(plan):
@@ -262,20 +311,22 @@ def zero(a, b):
 
 def date(minute):
     if minute > LAST:
-        return line(f"minute {minute}: 3")
-    d = date_of(minute)
-    weekday = (d.isoweekday() + 1) % 7               # Saturday is 0
-    line(f"minute {minute}: 0", d.year, d.month, d.day, d.hour, d.minute, weekday, 0, minute)
+        answer = (3,)
+    else:
+        d = date_of(minute)
+        weekday = (d.isoweekday() + 1) % 7           # Saturday is 0
+        answer = (0, d.year, d.month, d.day, d.hour, d.minute, weekday, 0, minute)
+    case("d", f"minute {minute}:", spaced(*answer))
 
 
 def minute(*numbers):
-    label = "date " + " ".join(map(str, numbers)) + ":"
     try:
         d = datetime.datetime(*numbers)
         real = 2000 <= d.year <= 2099
     except (ValueError, OverflowError):
         real = False
-    line(label, *((0, minute_of(*numbers)) if real else (15,)))
+    answer = (0, minute_of(*numbers)) if real else (15,)
+    case("m", f"date{spaced(*numbers)}:", spaced(*answer))
 
 
 def around(m):
@@ -285,41 +336,43 @@ def around(m):
 
 def sent(plan, m):
     bits = frame(plan, m)
-    one(f"{plan_text(plan)} sends {m} {digits(bits)}", bits, len(bits), 12)
+    case("s", f"{plan_text(plan)} sends {m}", f" {digits(bits)}" + entry_text(bits, 12))
 
 
-def minute_facts(plan, m):
-    return f" {m} {' '.join(map(str, facts(plan, m)))},"
+def minutes(text, plan, *numbers):
+    """What a plan gives some minutes."""
+    answer = "".join(spaced(m, *facts(plan, m)) + "," for m in numbers)
+    case("f" + ".".join(map(str, (*plan, len(numbers), *numbers))), text, answer)
 
 
 def change(row, year):
     plan = (0, row, 37, 0, 0, 0) if row <= 24 else (0, 10, row, 0, 0, 0)
     t = change_minute(row, year)
-    line(f"row {row} changes:" + "".join(minute_facts(plan, m) for m in (t - 1, t, t + 1439, t + 1440)))
+    minutes(f"row {row} changes:", plan, t - 1, t, t + 1439, t + 1440)
 
 
 def month_end(month, sign):
     last = minute_of(2000 + (month + 1) // 12, (month + 1) % 12 + 1, 1) - 1
     plan = (1, 0, 0, month, sign, 0)
-    line(f"leap month {month} {sign}:" + "".join(minute_facts(plan, m) for m in (last - 1, last, last + 1)))
+    minutes(f"leap month {month} {sign}:", plan, last - 1, last, last + 1)
     return last
 
 
 def written(plan, first, count, space):
     refusal, bits = write(plan, first, count, space)
     out = bits + [7] * (124 - len(bits))
-    line(f"{plan_text(plan)} writes {first} {count} in {space}:", refusal, len(bits), digits(out))
+    case("w", f"{plan_text(plan)} writes {first} {count} in {space}:", spaced(refusal, len(bits), digits(out)))
 
 
 def carried(plan, first, count):
     bits = write(plan, first, count, 183)[1]
-    recording(f"{plan_text(plan)} sends {first} {count}", bits, len(bits), 36)
+    case("c", f"{plan_text(plan)} sends {first} {count}", entries_text(bits, 36))
 
 
 def long(plan, first, count):
     bits = write(plan, first, count, 65536)[1]
     n, used, refusal, _ = read_recording(bits, [0] * 12000, 12000)
-    line(f"{plan_text(plan)} sends {first} {count} {len(bits)}:", n, used, refusal)
+    case("l", f"{plan_text(plan)} sends {first} {count}", f" {len(bits)}:" + spaced(n, used, refusal))
 
 
 def edited(plan, m, at, value, n):
@@ -372,6 +425,20 @@ def third(question, also, m, n, space):
     last = damaged(damaged(frame(USUAL, m), question), also)
     bits = frame(USUAL, JULY_4) + frame(USUAL, JULY_4 + 1) + last
     recording(f"third frame, no to {question} {also}, bytes {n} space {space}", bits, n, space)
+
+
+def listed(name, text, alone=False):
+    """A line, handed with its line feed and what follows, or alone."""
+    out = listing(text.encode() if alone else text.encode() + b"\n" + b"0 10 37 0 0 0 0 1\n")
+    shown = "\n" + out.decode() if len(out) < 200 else ""
+    case("p" if alone else "q", f"listing, {name}:", spaced(len(out), check_sum(out)) + shown, text)
+
+
+def listed_within(space, text):
+    out = listing(text.encode())
+    fits = len(out) <= space
+    buffer = out + b"\7" * (94 - len(out)) if fits else b"\7" * 94
+    case(f"n{space}", f"listing in {space} bytes of {text}:", spaced(*((0, len(out)) if fits else (4, 0)), "|", *buffer), text)
 
 
 def tables():
@@ -492,15 +559,110 @@ def refused_readings():
     recording("one bit and no space", [0], 1, 11)
 
 
+EXAMPLE_LINE = "0 10 37 0 0 0 6578970 1"
+
+LISTED = [
+    ("kind 0", EXAMPLE_LINE),
+    ("two frames", "0 10 37 0 0 1 6578970 2"),
+    ("kind 1", "1 0 0 0 0 0 0 1"),
+    ("kind 2", "2 0 0 0 0 1 52595999 1"),
+    ("61 seconds", "0 10 37 149 1 0 6573599 1"),
+    ("59 seconds", "0 10 37 149 -1 0 6573599 1"),
+    ("sign -0", "0 10 37 0 -0 0 6578970 1"),
+    ("sign -000000000", "0 10 37 0 -000000000 0 6578970 1"),
+    ("sign 01", "0 10 37 149 01 0 6573599 1"),
+    ("sign 2", "0 10 37 149 2 0 6573599 1"),
+    ("sign -2", "0 10 37 149 -2 0 6573599 1"),
+    ("sign -1 and no such month", "0 10 37 1200 -1 0 6573599 1"),
+    ("month without a sign", "0 10 37 149 0 0 6573599 1"),
+    ("leading zeros", "00 010 037 0000 00 00 06578970 01"),
+    ("nine digits each", "000000000 000000010 000000037 000000149 -000000001 000000000 006573599 000000001"),
+    ("nine nines", "0 10 37 0 0 0 999999999 999999999"),
+    ("nine nines as minute", "0 10 37 0 0 0 999999999 1"),
+    ("nine nines as kind", "999999999 10 37 0 0 0 6578970 1"),
+    ("no such kind", "3 0 0 0 0 0 6578970 1"),
+    ("rows in the other order", "0 37 10 0 0 0 6578970 1"),
+    ("rows without a kind", "1 10 37 0 0 0 6578970 1"),
+    ("notice 2", "0 10 37 0 0 2 6578970 1"),
+    ("count 0", "0 10 37 0 0 0 6578970 0"),
+    ("count 1001", "0 10 37 0 0 0 6578970 1001"),
+    ("minute after the last", "0 10 37 0 0 0 52596000 1"),
+    ("last minute too large", "0 10 37 0 0 0 52595999 2"),
+    ("questions 1, 2 and 3", "3 0 0 0 0 0 52596000 0"),
+    ("questions 2 and 3", "0 10 37 0 0 0 52596000 0"),
+    ("ten digits", "0 10 37 0 0 0 0006578970 1"),
+    ("ten digits first", "0000000000 10 37 0 0 0 6578970 1"),
+    ("ten digits last", "0 10 37 0 0 0 6578970 0000000001"),
+    ("ten digits behind a minus", "0 10 37 149 -0000000001 0 6573599 1"),
+    ("minus alone", "0 10 37 149 - 0 6573599 1"),
+    ("two minuses", "0 10 37 149 --1 0 6573599 1"),
+    ("minus behind the sign", "0 10 37 149 1- 0 6573599 1"),
+    ("blank behind the minus", "0 10 37 149 - 1 0 6573599 1"),
+    ("plus before the sign", "0 10 37 149 +1 0 6573599 1"),
+    ("plus before the kind", "+0 10 37 0 0 0 6578970 1"),
+    ("minus before the kind", "-0 10 37 0 0 0 6578970 1"),
+    ("minus before the spring row", "0 -10 37 0 0 0 6578970 1"),
+    ("minus before the autumn row", "0 10 -37 0 0 0 6578970 1"),
+    ("minus before the month", "0 10 37 -0 0 0 6578970 1"),
+    ("minus before the notice", "0 10 37 0 0 -0 6578970 1"),
+    ("minus before the minute", "0 10 37 0 0 0 -0 1"),
+    ("minus before the count", "0 10 37 0 0 0 6578970 -1"),
+    ("tab between numbers", "0 10\t37 0 0 0 6578970 1"),
+    ("tab behind", EXAMPLE_LINE + "\t"),
+    ("doubled blank", "0 10 37 0 0 0  6578970 1"),
+    ("doubled blank before the sign", "0 10 37 149  1 0 6573599 1"),
+    ("doubled blank before the count", "0 10 37 0 0 0 6578970  1"),
+    ("leading blank", " " + EXAMPLE_LINE),
+    ("trailing blank", EXAMPLE_LINE + " "),
+    ("carriage return", EXAMPLE_LINE + "\r"),
+    ("seven numbers", "0 10 37 0 0 0 6578970"),
+    ("seven numbers and a blank", "0 10 37 0 0 0 6578970 "),
+    ("nine numbers", EXAMPLE_LINE + " 1"),
+    ("one number", "0"),
+    ("empty line", ""),
+    ("one blank", " "),
+    ("seven blanks", " " * 7),
+    ("letter", "0 10 37 0 0 0 6578970 1x"),
+    ("hexadecimal", "0 0xa 37 0 0 0 6578970 1"),
+    ("point", "0 10 37 0 0 0 6578970 1.0"),
+    ("byte before 0", "0 10 37 0 0 0 6578970 /"),
+    ("byte behind 9", "0 10 37 0 0 0 6578970 :"),
+    ("commas", "0,10,37,0,0,0,6578970,1"),
+    ("no-break space", "0 10 37 0 0 0 6578970\u00a01"),
+    ("longer than any legal line", "000000000 000000010 000000037 000000149 -000000001 000000000 006573599 0000000001"),
+    ("one digit 120 times", "0" * 120),
+    ("120 bytes that begin well", EXAMPLE_LINE + " " * 97),
+    ("1,000 frames", "0 10 37 0 0 0 6578970 1000"),
+    ("1,000 frames, one of 59 seconds", "0 10 37 149 -1 1 6573100 1000"),
+    ("the longest", "0 10 37 1199 1 0 52595000 1000"),
+]
+
+
+def listings():
+    for name, text in LISTED:
+        listed(name, text)
+    listed("no input", "", alone=True)
+    listed("no line feed", EXAMPLE_LINE, alone=True)
+    listed("no line feed, carriage return", EXAMPLE_LINE + "\r", alone=True)
+    listed("no line feed, seven numbers", "0 10 37 0 0 0 6578970", alone=True)
+    listed("no line feed, 1,000 frames", "2 0 0 0 0 0 0 1000", alone=True)
+    for space in (0, 20, 91, 92, 94):
+        listed_within(space, EXAMPLE_LINE)
+    for space in (0, 9, 10, 11):
+        listed_within(space, "0 10 37 0 0 0 6578970 0")
+
+
 def main():
     tables()
     calendar_lines()
     writings()
     refused_readings()
+    listings()
     text = "\n".join(LINES) + "\n"
     if sys.argv[1:] == ["--write"]:
-        path = pathlib.Path(__file__).resolve().parent.parent / "crates" / "vectors" / "stdout"
-        path.write_text(text)
+        folder = pathlib.Path(__file__).resolve().parent.parent / "crates" / "vectors"
+        (folder / "stdin").write_bytes(("\n".join(CASES) + "\n").encode())
+        (folder / "stdout").write_bytes(text.encode())
     else:
         sys.stdout.write(text)
 

@@ -1,56 +1,53 @@
-// Outside vectors, tried on the real code: a line each.
+// Outside vectors, tried on the real code. A line of standard input is a case:
+// a letter that says what is tried, numbers that are not printed, a space, a text, a `#`, and bytes to be read.
+// The text is printed, and behind it what the code gives.
+mod calls;
 mod dates;
-mod days;
-mod frames;
-mod plans;
+mod listings;
+mod numbers;
 mod reading;
-mod refusals;
 mod sending;
 mod show;
 
-// What stands in NIST's tables, and in the bench table.
-fn tables() {
-    reading::table_10();
-    dates::bench();
-    plans::bench();
-    reading::state_words();
-    reading::next_words(0b01000);
-    reading::next_words(0b00011);
-    reading::places();
+use libc::STDIN_FILENO;
+
+// Space for all cases.
+const INPUT_SPACE: usize = 131_072;
+
+const LINE_FEED: u8 = b'\n';
+
+const SPACE: u8 = b' ';
+
+const HASH: u8 = b'#';
+
+// Tries one case: the first n bytes of the input that is left.
+fn case(rest: &[u8], n: usize) {
+    if rest.len() < n {
+        return;
+    }
+    let space = bytes::scan::find(rest, 0, n, SPACE);
+    let hash = bytes::scan::find(rest, 0, n, HASH);
+    if space < hash {
+        if hash < n {
+            show::text(&rest[space + 1..hash]);
+            calls::call(&rest[0..hash], &rest[hash + 1..n], &rest[hash + 1..]);
+            show::end();
+        }
+    }
 }
 
-fn calendar_lines() {
-    days::changes();
-    days::other_years();
-    days::month_ends();
-    days::century_ends();
-    days::rows();
-    dates::real();
-    dates::unreal();
-}
-
-fn writings() {
-    plans::illegal_plans();
-    plans::refused();
-    plans::accepted();
-    plans::kinds();
-    plans::lengths();
-    plans::bytes();
-    plans::joins();
-}
-
-fn refused_readings() {
-    refusals::in_first();
-    refusals::two_in_first();
-    refusals::in_third();
-    refusals::two_in_third();
-    refusals::at_the_end();
-    reading::nothing();
+// Tries each case.
+fn cases(input: &[u8]) {
+    let mut at: usize = 0;
+    while at < input.len() {
+        let end = bytes::scan::find(input, at, input.len(), LINE_FEED);
+        case(&input[at..], end - at);
+        at = end + 1;
+    }
 }
 
 fn main() {
-    tables();
-    calendar_lines();
-    writings();
-    refused_readings();
+    let mut input = [0u8; INPUT_SPACE];
+    let n = io::read_full(STDIN_FILENO, &mut input);
+    cases(&input[0..n]);
 }

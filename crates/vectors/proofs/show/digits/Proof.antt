@@ -1,22 +1,21 @@
--- `vectors::show::bytes_behind` is safe and ends.
+-- `vectors::show::digits` is safe and ends.
 -- Assumes nothing.
-use lib.ListN.{length}
 use Prim.Native.Nat.{_-_}
 use native.Mathlib.Omega.{arith}
-use Rattle.vectors.proofs.show.bytes_behind.Statement.{statement}
-use Rattle.vectors.proofs.show.bytes_behind.Tie as tie
+use Rattle.vectors.proofs.show.digits.Statement.{statement}
+use Rattle.vectors.proofs.show.digits.Tie as tie
 
 abbrev Inv-loop : tie.InvT-loop
-Inv-loop before s i₀ i = Unit {0}
+Inv-loop s n i₀ i = Unit {0}
 
 abbrev μ-loop : tie.MeasureT-loop
-μ-loop before s i₀ i = length s - i
+μ-loop s n i₀ i = n - i
+
+mark-requires : tie.Need-mark-requires Inv-loop μ-loop
+mark-requires c κs = tt
 
 loop-holds : tie.Need-loop-holds Inv-loop μ-loop
 loop-holds c = tt
-
-text-requires : tie.Need-text-requires Inv-loop μ-loop
-text-requires c κs = tt
 
 shared-slice-read-byte : tie.Need-shared-slice-read-byte Inv-loop μ-loop
 shared-slice-read-byte c = omega arith
@@ -36,14 +35,14 @@ loop-again c = tt
 returns : tie.Need-returns Inv-loop μ-loop
 returns c = tt
 
-pub bytes-behind-spec : {M : Type 1} → statement M
-bytes-behind-spec =
+pub digits-spec : {M : Type 1} → statement M
+digits-spec =
     tie.close
     (tie.spec
     Inv-loop
     μ-loop
+    mark-requires
     loop-holds
-    text-requires
     shared-slice-read-byte
     byte-requires
     add-i
