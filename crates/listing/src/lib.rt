@@ -4,6 +4,7 @@ ghost use mathlib.Core.List.{_++_};
 ghost use lib.ListN.{length, drop};
 ghost use Rattle.listing.specs.Listing.{listing};
 ghost use Rattle.listing.specs.Answer.{putInto, listOutcome};
+ghost use Rattle.listing.specs.Theorems.{listingSpace, decidingBytes};
 
 mod line;
 mod text;
@@ -20,6 +21,20 @@ pub const LINE_SPACE: usize = 81;
 const LINE_FEED: u8 = b'\n';
 
 const ILLEGAL_LINE: u32 = 1;
+
+// Space for the bytes of the input that decide.
+pub fn line_buffer() -> [u8; LINE_SPACE]
+    ensures { λ r. ⌜ length r ≡ decidingBytes ⌝ }
+{
+    [0; LINE_SPACE]
+}
+
+// Space for any listing.
+pub fn text_buffer() -> [u8; LISTING_SPACE]
+    ensures { λ r. ⌜ length r ≡ listingSpace ⌝ }
+{
+    [0; LISTING_SPACE]
+}
 
 // Writes to out what the first line of the input is answered with.
 pub fn list(input: &[u8], out: &mut [u8]) -> ListAnswer
