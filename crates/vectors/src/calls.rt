@@ -15,27 +15,15 @@ fn sends(letter: u8, text: &[u8]) {
     }
 }
 
-// Reads given bytes.
-fn reads(letter: u8, text: &[u8], given: &[u8], rest: &[u8]) {
-    match letter {
-        b'o' => reading::given_one(text, given),
-        b'a' => reading::given_all(text, given),
-        b'p' => listings::whole(given),
-        b'q' => listings::whole(rest),
-        b'n' => listings::within(text, given),
-        _ => sends(letter, text),
-    }
-}
-
-// Tries a case. Given are the bytes of its line behind the text; the rest goes on to the end of the input.
-pub fn call(text: &[u8], given: &[u8], rest: &[u8]) {
-    if text.len() < 1 {
-        return;
-    }
-    let letter = text[0];
+// Tries a case: its letter, its text, and the input behind, of which the first n bytes stand in its line.
+pub fn call(letter: u8, text: &[u8], behind: &[u8], n: usize) {
     match letter {
         b'd' => dates::date(text),
         b'm' => dates::minute(text),
-        _ => reads(letter, text, given, rest),
+        b'o' | b'a' => reading::given(letter, text, behind, n),
+        b'p' => listings::alone(behind, n),
+        b'q' => listings::whole(behind),
+        b'n' => listings::within(text, behind),
+        _ => sends(letter, text),
     }
 }

@@ -32,11 +32,18 @@ fn listed(text: &[u8]) {
     }
 }
 
-// Lists an input.
+// Lists the first line of an input.
 pub fn whole(input: &[u8]) {
     let mut text = [0u8; listing::LISTING_SPACE];
     let n = listing::list_all(input, &mut text);
     listed(&text[..n]);
+}
+
+// Lists an input of n bytes, with no line feed.
+pub fn alone(input: &[u8], n: usize) {
+    if n <= input.len() {
+        whole(&input[0..n]);
+    }
 }
 
 // Lists to the front of the bytes: the refusal or 0, and the number of bytes.

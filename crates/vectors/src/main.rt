@@ -22,16 +22,15 @@ const HASH: u8 = b'#';
 
 // Tries one case: the first n bytes of the input that is left.
 fn case(rest: &[u8], n: usize) {
-    if rest.len() < n {
-        return;
-    }
-    let space = bytes::scan::find(rest, 0, n, SPACE);
-    let hash = bytes::scan::find(rest, 0, n, HASH);
+    let space = bytes::scan::find(rest, 0, rest.len(), SPACE);
+    let hash = bytes::scan::find(rest, 0, rest.len(), HASH);
     if space < hash {
-        if hash < n {
-            show::text(&rest[space + 1..hash]);
-            calls::call(&rest[0..hash], &rest[hash + 1..n], &rest[hash + 1..]);
-            show::end();
+        if hash < rest.len() {
+            if hash < n {
+                show::text(&rest[space + 1..hash]);
+                calls::call(rest[0], &rest[0..hash], &rest[hash + 1..], n - hash - 1);
+                show::end();
+            }
         }
     }
 }
@@ -49,5 +48,5 @@ fn cases(input: &[u8]) {
 fn main() {
     let mut input = [0u8; INPUT_SPACE];
     let n = io::read_full(STDIN_FILENO, &mut input);
-    cases(&input[0..n]);
+    cases(&input[..n]);
 }

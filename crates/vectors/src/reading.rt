@@ -69,16 +69,23 @@ pub fn long(bits: &[u8], n: usize) {
     }
 }
 
-// Given bits as one frame; the first number is the entry space.
-pub fn given_one(text: &[u8], given: &[u8]) {
-    let mut bits = [0u8; 192];
-    load(given, &mut bits);
-    one(&bits, given.len(), numbers::size(text, 0));
+// Reads the first n bits as one frame: what its plan gave it.
+pub fn facts(bits: &[u8], n: usize) {
+    let mut entry = [7u8; 12];
+    if n <= bits.len() {
+        frame::read_one(&bits[0..n], &mut entry);
+        show::facts(&entry);
+    }
 }
 
-// Given bits as a recording.
-pub fn given_all(text: &[u8], given: &[u8]) {
+// Reads n given bits as one frame or as a recording; the first number is the entry space.
+pub fn given(letter: u8, text: &[u8], digits: &[u8], n: usize) {
     let mut bits = [0u8; 192];
-    load(given, &mut bits);
-    all(&bits, given.len(), numbers::size(text, 0));
+    load(digits, &mut bits);
+    let space = numbers::size(text, 0);
+    if letter == b'o' {
+        one(&bits, n, space);
+    } else {
+        all(&bits, n, space);
+    }
 }

@@ -2,7 +2,6 @@
 use crate::numbers;
 use crate::reading;
 use crate::show;
-use plan::Plan;
 use recording::WriteAnswer;
 
 // The refusal or 0, and the number of bits.
@@ -11,8 +10,14 @@ struct Answer {
     bits: usize,
 }
 
-fn write(plan: Plan, first: u32, count: u32, out: &mut [u8]) -> Answer {
-    let answer = recording::write_recording(plan, first, count, out);
+// Writes a recording: of the plan in a text, from its number k on.
+fn write(text: &[u8], k: usize, count: u32, out: &mut [u8]) -> Answer {
+    let answer = recording::write_recording(
+        numbers::plan(text),
+        numbers::number(text, k),
+        count,
+        out,
+    );
     match answer {
         WriteAnswer::Written(bits) => Answer { refusal: 0, bits },
         WriteAnswer::Refused(refusal) => Answer {
@@ -22,21 +27,10 @@ fn write(plan: Plan, first: u32, count: u32, out: &mut [u8]) -> Answer {
     }
 }
 
-// Writes the recording that a text asks for: its plan, and the two numbers behind.
-fn write_for(text: &[u8], out: &mut [u8]) -> Answer {
-    let plan = numbers::plan(text);
-    write(
-        plan,
-        numbers::number(text, 6),
-        numbers::number(text, 7),
-        out,
-    )
-}
-
 // Writes to the front of the bytes: the refusal or 0, and the bits.
 fn write_front(text: &[u8], out: &mut [u8], space: usize) {
     if space <= out.len() {
-        let answer = write_for(text, &mut out[0..space]);
+        let answer = write(text, 6, numbers::number(text, 7), &mut out[0..space]);
         show::value(answer.refusal);
         show::size(answer.bits);
     }
@@ -52,8 +46,7 @@ pub fn written(text: &[u8]) {
 // `plan .. sends MINUTE` writes a frame, and reads it alone: its bits and its entry.
 pub fn sent(text: &[u8]) {
     let mut bits = [0u8; 61];
-    let plan = numbers::plan(text);
-    let answer = write(plan, numbers::number(text, 6), 1, &mut bits);
+    let answer = write(text, 6, 1, &mut bits);
     show::digits(&bits, answer.bits);
     reading::one(&bits, answer.bits, 12);
 }
@@ -61,40 +54,34 @@ pub fn sent(text: &[u8]) {
 // `plan .. sends FIRST COUNT` writes a recording, and reads it.
 pub fn carried(text: &[u8]) {
     let mut bits = [0u8; 183];
-    let answer = write_for(text, &mut bits);
+    let answer = write(text, 6, numbers::number(text, 7), &mut bits);
     reading::all(&bits, answer.bits, 36);
 }
 
 // The same of up to 1,000 frames: the numbers alone.
 pub fn long(text: &[u8]) {
     let mut bits = io::large_buffer();
-    let answer = write_for(text, &mut bits);
+    let answer = write(text, 6, numbers::number(text, 7), &mut bits);
     show::size(answer.bits);
     reading::long(&bits, answer.bits);
 }
 
-// A minute of a plan: its length, dst_on[1] and dst_on[0], leap and row, as the reader has them.
-fn minute(plan: Plan, minute: u32) {
+// Number k as a minute: its length, dst_on[1] and dst_on[0], leap and row, as the reader has them.
+fn minute(text: &[u8], k: usize) {
     let mut bits = [0u8; 61];
-    let mut entry = [7u8; 12];
-    show::value(minute);
-    let answer = write(plan, minute, 1, &mut bits);
-    let n = answer.bits;
-    if n <= 61 {
-        frame::read_one(&bits[0..n], &mut entry);
-        show::facts(&entry);
-    }
+    let answer = write(text, k, 1, &mut bits);
+    show::value(numbers::number(text, k));
+    reading::facts(&bits, answer.bits);
     show::mark(b',');
 }
 
 // Up to four minutes of a plan: the numbers behind it are how many, and each.
 pub fn minutes(text: &[u8]) {
-    let plan = numbers::plan(text);
     let count = numbers::size(text, 6);
     let mut k: usize = 0;
     while k < 4 {
         if k < count {
-            minute(plan, numbers::number(text, k + 7));
+            minute(text, k + 7);
         }
         k += 1;
     }

@@ -64,10 +64,10 @@ pub fn digits(s: &[u8], n: usize) {
 
 // Of an entry: length, dst_on[1] and dst_on[0], leap, row.
 pub fn facts(entry: &[u8; 12]) {
-    let state = entry[5];
-    let daylight = [state / 2, state % 2];
+    let daylight = entry[5];
     spaced(entry[4]);
-    digits(&daylight, 2);
+    spaced(daylight / 2);
+    byte(daylight % 2);
     spaced(entry[6]);
     spaced(entry[7]);
 }

@@ -6,13 +6,10 @@ use Rattle.vectors.proofs.sending.minutes.Statement.{statement}
 use Rattle.vectors.proofs.sending.minutes.Tie as tie
 
 abbrev Inv-loop : tie.InvT-loop
-Inv-loop text plan count k₀ k = Unit {0}
+Inv-loop text count k₀ k = Unit {0}
 
 abbrev μ-loop : tie.MeasureT-loop
-μ-loop text plan count k₀ k = 4 - k
-
-plan-requires : tie.Need-plan-requires Inv-loop μ-loop
-plan-requires c κs = tt
+μ-loop text count k₀ k = 4 - k
 
 size-requires : tie.Need-size-requires Inv-loop μ-loop
 size-requires c κs = tt
@@ -20,11 +17,8 @@ size-requires c κs = tt
 loop-holds : tie.Need-loop-holds Inv-loop μ-loop
 loop-holds c = tt
 
-add-number : tie.Need-add-number Inv-loop μ-loop
-add-number c = omega arith
-
-number-requires : tie.Need-number-requires Inv-loop μ-loop
-number-requires c κs = tt
+add-minute : tie.Need-add-minute Inv-loop μ-loop
+add-minute c = omega arith
 
 minute-requires : tie.Need-minute-requires Inv-loop μ-loop
 minute-requires c κs = tt
@@ -47,11 +41,9 @@ minutes-spec =
     (tie.spec
     Inv-loop
     μ-loop
-    plan-requires
     size-requires
     loop-holds
-    add-number
-    number-requires
+    add-minute
     minute-requires
     add-k
     loop-less
