@@ -212,6 +212,7 @@ def read_recording(bits, buffer, space):
 
 # ---- listing
 
+LISTING_SPACE = 20 + 1000 * len("52595000 60 " + 60 * "0" + "\n") + 1       # 1,000 frames, one of them long
 NUMBER = rb"([0-9]{1,9})"
 LINE = rb" ".join([NUMBER] * 4 + [rb"(-?[0-9]{1,9})"] + [NUMBER] * 3)
 
@@ -427,18 +428,15 @@ def third(question, also, m, n, space):
     recording(f"third frame, no to {question} {also}, bytes {n} space {space}", bits, n, space)
 
 
-def listed(name, text, alone=False):
-    """A line, handed with its line feed and what follows, or alone."""
+def listed(name, text, alone=False, space=LISTING_SPACE):
+    """A line, handed with its line feed and what follows, or alone. The check sum is of the whole buffer."""
     out = listing(text.encode() if alone else text.encode() + b"\n" + b"0 10 37 0 0 0 0 1\n")
+    refusal = 0
+    if len(out) > space:
+        refusal, out = 4, b""
     shown = "\n" + out.decode() if len(out) < 200 else ""
-    case("p" if alone else "q", f"listing, {name}:", spaced(len(out), check_sum(out)) + shown, text)
-
-
-def listed_within(space, text):
-    out = listing(text.encode())
-    fits = len(out) <= space
-    buffer = out + b"\7" * (94 - len(out)) if fits else b"\7" * 94
-    case(f"n{space}", f"listing in {space} bytes of {text}:", spaced(*((0, len(out)) if fits else (4, 0)), "|", *buffer), text)
+    answer = spaced(refusal, len(out), check_sum(out + b"\7" * (LISTING_SPACE - len(out)))) + shown
+    case(f"{'p' if alone else 'q'}{space}", f"listing, {name}:", answer, text)
 
 
 def tables():
@@ -646,10 +644,11 @@ def listings():
     listed("no line feed, carriage return", EXAMPLE_LINE + "\r", alone=True)
     listed("no line feed, seven numbers", "0 10 37 0 0 0 6578970", alone=True)
     listed("no line feed, 1,000 frames", "2 0 0 0 0 0 0 1000", alone=True)
-    for space in (0, 20, 91, 92, 94):
-        listed_within(space, EXAMPLE_LINE)
+    for space in (0, 20, 91, 92, 93):
+        listed(f"{space} bytes", EXAMPLE_LINE, space=space)
     for space in (0, 9, 10, 11):
-        listed_within(space, "0 10 37 0 0 0 6578970 0")
+        listed(f"{space} bytes", "0 10 37 0 0 0 6578970 0", space=space)
+    listed(f"{LISTING_SPACE - 1} bytes", "0 10 37 1199 1 0 52595000 1000", space=LISTING_SPACE - 1)
 
 
 def main():

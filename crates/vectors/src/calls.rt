@@ -21,9 +21,8 @@ pub fn call(letter: u8, text: &[u8], behind: &[u8], n: usize) {
         b'd' => dates::date(text),
         b'm' => dates::minute(text),
         b'o' | b'a' => reading::given(letter, text, behind, n),
-        b'p' => listings::alone(behind, n),
-        b'q' => listings::whole(behind),
-        b'n' => listings::within(text, behind),
+        b'p' => listings::alone(text, behind, n),
+        b'q' => listings::listed(text, behind),
         _ => sends(letter, text),
     }
 }

@@ -22,51 +22,40 @@ fn check_sum(text: &[u8]) -> u32 {
     sum
 }
 
-// The length of a listing, its check sum, and the text where it is short.
-fn listed(text: &[u8]) {
-    show::size(text.len());
-    show::value(check_sum(text));
-    if text.len() < PRINTED {
-        show::end();
-        show::text(text);
+// Lists the first line of an input to the front of the bytes: the refusal or 0 is printed, the number of bytes given back.
+fn list_front(input: &[u8], out: &mut [u8], space: usize) -> usize {
+    if out.len() < space {
+        return 0;
     }
-}
-
-// Lists the first line of an input.
-pub fn whole(input: &[u8]) {
-    let mut text = [0u8; listing::LISTING_SPACE];
-    let n = listing::list_all(input, &mut text);
-    listed(&text[..n]);
-}
-
-// Lists an input of n bytes, with no line feed.
-pub fn alone(input: &[u8], n: usize) {
-    if n <= input.len() {
-        whole(&input[0..n]);
-    }
-}
-
-// Lists to the front of the bytes: the refusal or 0, and the number of bytes.
-fn list_front(input: &[u8], out: &mut [u8], space: usize) {
-    if space <= out.len() {
-        let answer = listing::list(input, &mut out[0..space]);
-        match answer {
-            ListAnswer::Listed(n) => {
-                show::value(0);
-                show::size(n);
-            }
-            ListAnswer::NoSpace => {
-                show::value(4);
-                show::value(0);
-            }
+    let answer = listing::list(input, &mut out[0..space]);
+    match answer {
+        ListAnswer::Listed(n) => {
+            show::value(0);
+            n
+        }
+        ListAnswer::NoSpace => {
+            show::value(4);
+            0
         }
     }
 }
 
-// Lists an input into so many bytes of 94; the first number is the space.
-pub fn within(text: &[u8], input: &[u8]) {
-    let mut out = [7u8; 94];
-    list_front(input, &mut out, numbers::size(text, 0));
-    show::bar();
-    show::bytes(&out);
+// Lists the first line of an input; the first number is the space. The refusal or 0, the number of bytes,
+// the check sum of the text with every byte behind it, and the text where it is short.
+pub fn listed(text: &[u8], input: &[u8]) {
+    let mut out = [7u8; listing::LISTING_SPACE];
+    let n = list_front(input, &mut out, numbers::size(text, 0));
+    show::size(n);
+    show::value(check_sum(&out));
+    if n < PRINTED {
+        show::end();
+        show::text(&out[0..n]);
+    }
+}
+
+// The same of an input of n bytes, with no line feed.
+pub fn alone(text: &[u8], input: &[u8], n: usize) {
+    if n <= input.len() {
+        listed(text, &input[0..n]);
+    }
 }

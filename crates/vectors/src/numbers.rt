@@ -1,60 +1,50 @@
 // The numbers in a case.
 use plan::Plan;
 
-// What was found so far: how many numbers ended, the wanted one, and whether the last byte was a digit.
+// What was found so far: how many numbers ended, the wanted one, and 1 where the last byte was a digit.
 struct Scan {
-    count: usize,
+    ended: u32,
     value: u32,
-    within: bool,
+    within: u32,
 }
 
 const ZERO: u8 = b'0';
 
 const MINUS: u8 = b'-';
 
-// A number with a digit behind it, modulo 2 ^ 32.
-fn with_digit(n: u32, digit: u8) -> u32 {
-    let longer = n as u64 * 10 + digit as u64;
-    (longer % 4_294_967_296) as u32
+// A number with a digit behind it, modulo 2 ^ 32, where it is wanted.
+fn with_digit(n: u32, digit: u8, wanted: bool) -> u32 {
+    if wanted {
+        let longer = n as u64 * 10 + digit as u64;
+        return (longer % 4_294_967_296) as u32;
+    }
+    n
 }
 
 // Looks at one byte more for number k.
-fn step(scan: Scan, byte: u8, k: usize) -> Scan {
+fn step(scan: Scan, byte: u8, k: u32) -> Scan {
     let digit = byte ^ ZERO;
-    let count = scan.count;
-    let value = scan.value;
     if digit < 10 {
-        if count == k {
-            return Scan {
-                count,
-                value: with_digit(value, digit),
-                within: true,
-            };
+        Scan {
+            ended: scan.ended,
+            value: with_digit(scan.value, digit, scan.ended == k),
+            within: 1,
         }
-        return Scan {
-            count,
-            value,
-            within: true,
-        };
-    }
-    if scan.within {
-        if count < 99 {
-            return Scan {
-                count: count + 1,
-                value,
-                within: false,
-            };
+    } else {
+        Scan {
+            ended: std::num::wrapping_add_u32(scan.ended, scan.within),
+            value: scan.value,
+            within: 0,
         }
     }
-    scan
 }
 
 // Number k of a text, from 0 on; 0 where it has fewer.
-pub fn number(text: &[u8], k: usize) -> u32 {
+pub fn number(text: &[u8], k: u32) -> u32 {
     let mut scan = Scan {
-        count: 0,
+        ended: 0,
         value: 0,
-        within: false,
+        within: 0,
     };
     let mut i: usize = 0;
     while i < text.len() {
@@ -64,7 +54,7 @@ pub fn number(text: &[u8], k: usize) -> u32 {
     scan.value
 }
 
-pub fn size(text: &[u8], k: usize) -> usize {
+pub fn size(text: &[u8], k: u32) -> usize {
     number(text, k) as usize
 }
 

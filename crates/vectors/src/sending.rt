@@ -11,7 +11,7 @@ struct Answer {
 }
 
 // Writes a recording: of the plan in a text, from its number k on.
-fn write(text: &[u8], k: usize, count: u32, out: &mut [u8]) -> Answer {
+fn write(text: &[u8], k: u32, count: u32, out: &mut [u8]) -> Answer {
     let answer = recording::write_recording(
         numbers::plan(text),
         numbers::number(text, k),
@@ -67,7 +67,7 @@ pub fn long(text: &[u8]) {
 }
 
 // Number k as a minute: its length, dst_on[1] and dst_on[0], leap and row, as the reader has them.
-fn minute(text: &[u8], k: usize) {
+fn minute(text: &[u8], k: u32) {
     let mut bits = [0u8; 61];
     let answer = write(text, k, 1, &mut bits);
     show::value(numbers::number(text, k));
@@ -77,8 +77,8 @@ fn minute(text: &[u8], k: usize) {
 
 // Up to four minutes of a plan: the numbers behind it are how many, and each.
 pub fn minutes(text: &[u8]) {
-    let count = numbers::size(text, 6);
-    let mut k: usize = 0;
+    let count = numbers::number(text, 6);
+    let mut k: u32 = 0;
     while k < 4 {
         if k < count {
             minute(text, k + 7);

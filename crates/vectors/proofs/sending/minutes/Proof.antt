@@ -11,8 +11,8 @@ Inv-loop text count k₀ k = Unit {0}
 abbrev μ-loop : tie.MeasureT-loop
 μ-loop text count k₀ k = 4 - k
 
-size-requires : tie.Need-size-requires Inv-loop μ-loop
-size-requires c κs = tt
+number-requires : tie.Need-number-requires Inv-loop μ-loop
+number-requires c κs = tt
 
 loop-holds : tie.Need-loop-holds Inv-loop μ-loop
 loop-holds c = tt
@@ -41,7 +41,7 @@ minutes-spec =
     (tie.spec
     Inv-loop
     μ-loop
-    size-requires
+    number-requires
     loop-holds
     add-minute
     minute-requires
