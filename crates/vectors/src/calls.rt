@@ -4,17 +4,6 @@ use crate::listings;
 use crate::reading;
 use crate::sending;
 
-// Sends by a plan.
-fn sends(letter: u8, text: &[u8]) {
-    match letter {
-        b's' => sending::sent(text),
-        b'c' => sending::carried(text),
-        b'l' => sending::long(text),
-        b'w' => sending::written(text),
-        _ => sending::minutes(text),
-    }
-}
-
 // Tries a case: its letter, its text, and the input behind, of which the first n bytes stand in its line.
 pub fn call(letter: u8, text: &[u8], behind: &[u8], n: usize) {
     match letter {
@@ -23,6 +12,8 @@ pub fn call(letter: u8, text: &[u8], behind: &[u8], n: usize) {
         b'o' | b'a' => reading::given(letter, text, behind, n),
         b'p' => listings::alone(text, behind, n),
         b'q' => listings::listed(text, behind),
-        _ => sends(letter, text),
+        b'w' => sending::written(text),
+        b'f' => sending::minutes(text),
+        _ => sending::sent(letter, text),
     }
 }

@@ -20,53 +20,56 @@ fn load(digits: &[u8], bits: &mut [u8]) {
     }
 }
 
-// Reads the bits as one frame into the front of the entry bytes: the refusal or 0.
-fn alone(bits: &[u8], entry: &mut [u8], space: usize) {
-    if space <= entry.len() {
-        let end = frame::read_one(bits, &mut entry[0..space]);
+// Reads the bits into the front of the entry bytes: as one frame the refusal or 0,
+// as a recording the entries, the bits used, and the refusal or 0.
+fn read_front(alone: bool, bits: &[u8], entries: &mut [u8], space: usize) {
+    if entries.len() < space {
+        return;
+    }
+    if alone {
+        let end = frame::read_one(bits, &mut entries[0..space]);
         show::value(end.number());
-    }
-}
-
-// Reads the first n bits as one frame, with so many entry bytes of 14: the refusal or 0, and all 14 bytes.
-pub fn one(bits: &[u8], n: usize, space: usize) {
-    let mut entry = [7u8; 14];
-    if n <= bits.len() {
-        show::mark(b':');
-        alone(&bits[0..n], &mut entry, space);
-        show::bar();
-        show::bytes(&entry);
-    }
-}
-
-// Reads the bits as a recording into the front of the entry bytes: entries, bits used, the refusal or 0.
-fn summary(bits: &[u8], entries: &mut [u8], space: usize) {
-    if space <= entries.len() {
+    } else {
         let answer = recording::read_recording(bits, &mut entries[0..space]);
         let end = answer.end;
-        show::mark(b':');
         show::size(answer.entries);
         show::size(answer.used);
         show::value(end.number());
     }
 }
 
-// Reads the first n bits as a recording, with so many entry bytes of 38: the numbers, and all 38 bytes.
-pub fn all(bits: &[u8], n: usize, space: usize) {
-    let mut entries = [7u8; 38];
+// Reads the first n bits with so many entry bytes: the numbers, and the first bytes of the buffer.
+fn read(alone: bool, bits: &[u8], n: usize, space: usize, shown: usize) {
+    let mut entries = [7u8; 12000];
     if n <= bits.len() {
-        summary(&bits[0..n], &mut entries, space);
-        show::bar();
-        show::bytes(&entries);
+        show::mark(b':');
+        read_front(alone, &bits[0..n], &mut entries, space);
+        show::bytes(&entries, shown);
     }
 }
 
-// Reads the first n bits as a recording of up to 1,000 frames: the numbers alone.
-pub fn long(bits: &[u8], n: usize) {
-    let mut entries = [0u8; 12000];
-    if n <= bits.len() {
-        summary(&bits[0..n], &mut entries, 12000);
+// Reads what a letter asks for: a frame sent, a recording sent, a long one, given bits as one frame or as a recording.
+pub fn shown(letter: u8, bits: &[u8], n: usize, space: usize) {
+    match letter {
+        b's' => {
+            show::digits(bits, n);
+            read(true, bits, n, 12, 14);
+        }
+        b'c' => read(false, bits, n, 36, 38),
+        b'l' => {
+            show::size(n);
+            read(false, bits, n, 12000, 0);
+        }
+        b'o' => read(true, bits, n, space, 14),
+        _ => read(false, bits, n, space, 38),
     }
+}
+
+// Reads n given bits; the first number is the entry space.
+pub fn given(letter: u8, text: &[u8], digits: &[u8], n: usize) {
+    let mut bits = [0u8; 192];
+    load(digits, &mut bits);
+    shown(letter, &bits, n, numbers::size(text, 0));
 }
 
 // Reads the first n bits as one frame: what its plan gave it.
@@ -75,17 +78,5 @@ pub fn facts(bits: &[u8], n: usize) {
     if n <= bits.len() {
         frame::read_one(&bits[0..n], &mut entry);
         show::facts(&entry);
-    }
-}
-
-// Reads n given bits as one frame or as a recording; the first number is the entry space.
-pub fn given(letter: u8, text: &[u8], digits: &[u8], n: usize) {
-    let mut bits = [0u8; 192];
-    load(digits, &mut bits);
-    let space = numbers::size(text, 0);
-    if letter == b'o' {
-        one(&bits, n, space);
-    } else {
-        all(&bits, n, space);
     }
 }

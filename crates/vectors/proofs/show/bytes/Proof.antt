@@ -1,16 +1,21 @@
 -- `vectors::show::bytes` is safe and ends.
 -- Assumes nothing.
-use lib.ListN.{length}
 use Prim.Native.Nat.{_-_}
 use native.Mathlib.Omega.{arith}
 use Rattle.vectors.proofs.show.bytes.Statement.{statement}
 use Rattle.vectors.proofs.show.bytes.Tie as tie
 
 abbrev Inv-loop : tie.InvT-loop
-Inv-loop s i₀ i = Unit {0}
+Inv-loop s n i₀ i = Unit {0}
 
 abbrev μ-loop : tie.MeasureT-loop
-μ-loop s i₀ i = length s - i
+μ-loop s n i₀ i = n - i
+
+slice-aggregate-text : tie.Need-slice-aggregate-text Inv-loop μ-loop
+slice-aggregate-text c = omega arith
+
+text-requires : tie.Need-text-requires Inv-loop μ-loop
+text-requires c κs = tt
 
 loop-holds : tie.Need-loop-holds Inv-loop μ-loop
 loop-holds c = tt
@@ -39,6 +44,8 @@ bytes-spec =
     (tie.spec
     Inv-loop
     μ-loop
+    slice-aggregate-text
+    text-requires
     loop-holds
     shared-slice-read-spaced
     spaced-requires
