@@ -7,11 +7,15 @@ use crate::sending;
 // Tries a case: its letter, its text, and the input behind, of which the first n bytes stand in its line.
 pub fn call(letter: u8, text: &[u8], behind: &[u8], n: usize) {
     match letter {
+        // the date of a minute, the minute of a date
         b'd' => dates::date(text),
         b'm' => dates::minute(text),
+        // given bits as one frame, as a recording
         b'o' | b'a' => reading::given(letter, text, behind, n),
+        // a line of `station` with no line feed, with one
         b'p' => listings::alone(text, behind, n),
         b'q' => listings::listed(text, behind),
+        // a recording written, minutes of a plan; `s`, `c`, `l`: a frame, a recording, a long one sent and read
         b'w' => sending::written(text),
         b'f' => sending::minutes(text),
         _ => sending::sent(letter, text),
