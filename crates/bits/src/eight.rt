@@ -1,9 +1,10 @@
 // Eight bits at a time.
+ghost use mathlib.Core.Bool.{true};
 ghost use mathlib.Core.Path.{_≡_};
 ghost use mathlib.Core.List.{_++_};
-ghost use Prim.Native.Nat.{ℕ, _+_, _/_, _%_, _^_, _≤_, _<_};
+ghost use Prim.Native.Nat.{ℕ, _+_, _-_, _/_, _%_, _^_, _≤_, _<_};
 ghost use lib.ListN.{length, take, drop};
-ghost use Rattle.bits.specs.Bits.{bit, bits, number};
+ghost use Rattle.bits.specs.Bits.{bit, bits, number, isBit, all};
 
 // A byte as a number of 64 bits.
 fn wide(b: u8) -> u64
@@ -12,38 +13,33 @@ fn wide(b: u8) -> u64
     b as u64
 }
 
-// The number of the two bits from place i on.
-fn two(s: &[u8], i: usize) -> u64
-    requires { ⌜ i + 2 ≤ length (now s) ⌝ }
-    ensures { λ r. ⌜ (r ≡ number (take 2 (drop i (now (s .entry))))) × (r ≤ 765) ⌝ }
-{
-    wide(s[i]) * 2 + wide(s[i + 1])
-}
-
-// The number of the four bits from place i on.
+// The number of the four bits from place i on: the product brings the four bytes, each 0 or 1, side by side.
 fn four(s: &[u8], i: usize) -> u64
-    requires { ⌜ i + 4 ≤ length (now s) ⌝ }
-    ensures { λ r. ⌜ (r ≡ number (take 4 (drop i (now (s .entry))))) × (r ≤ 3825) ⌝ }
+    requires { ⌜ (i + 4 ≤ length (now s)) × (all isBit (now s) ≡ true) ⌝ }
+    ensures { λ r. ⌜ (r ≡ number (take 4 (drop i (now (s .entry))))) × (r < 16) ⌝ }
 {
-    two(s, i) * 4 + two(s, i + 2)
+    let x = wide(s[i])
+        + wide(s[i + 1]) * 0x100
+        + wide(s[i + 2]) * 0x1_0000
+        + wide(s[i + 3]) * 0x100_0000;
+    x * 0x0804_0201 / 0x100_0000 % 16
 }
 
 // The number of the eight bits from place i on.
 pub fn gather(s: &[u8], i: usize) -> u64
-    requires { ⌜ i + 8 ≤ length (now s) ⌝ }
+    requires { ⌜ (i + 8 ≤ length (now s)) × (all isBit (now s) ≡ true) ⌝ }
     ensures { λ r. ⌜ r ≡ number (take 8 (drop i (now (s .entry)))) ⌝ }
 {
     four(s, i) * 16 + four(s, i + 4)
 }
 
-// The eight bits of v, each in a byte of its own: three shifts take them apart.
+// The eight bits of v, each in a byte of its own, the highest in the lowest byte.
 fn unpack(v: u64) -> u64
     requires { ⌜ v < 256 ⌝ }
-    ensures { λ r. ⌜ ((j : ℕ) → j < 8 → r / 256 ^ j % 256 ≡ bit v j) ⌝ }
+    ensures { λ r. ⌜ ((j : ℕ) → j < 8 → r / 256 ^ j % 256 ≡ bit v (7 - j)) ⌝ }
 {
-    let fours = (v | (v << 28)) & 0x0000_000F_0000_000F;
-    let pairs = (fours | (fours << 14)) & 0x0003_0003_0003_0003;
-    (pairs | (pairs << 7)) & 0x0101_0101_0101_0101
+    let halves = v / 16 + v % 16 * 0x1_0000_0000;
+    (halves * 0x0804_0201 / 8) & 0x0101_0101_0101_0101
 }
 
 // Fills the eight bytes from place i on with the bits of v.
@@ -52,12 +48,12 @@ pub fn spread(v: u64, out: &mut [u8], i: usize)
     ensures { λ r. ⌜ now (out .exit) ≡ take i (now (out .entry)) ++ bits 8 v ++ drop (i + 8) (now (out .entry)) ⌝ }
 {
     let x = unpack(v);
-    out[i] = (x / 0x0100_0000_0000_0000 % 256) as u8;
-    out[i + 1] = (x / 0x0001_0000_0000_0000 % 256) as u8;
-    out[i + 2] = (x / 0x0100_0000_0000 % 256) as u8;
-    out[i + 3] = (x / 0x0001_0000_0000 % 256) as u8;
-    out[i + 4] = (x / 0x0100_0000 % 256) as u8;
-    out[i + 5] = (x / 0x0001_0000 % 256) as u8;
-    out[i + 6] = (x / 0x0100 % 256) as u8;
-    out[i + 7] = (x % 256) as u8;
+    out[i] = (x % 256) as u8;
+    out[i + 1] = (x / 0x0100 % 256) as u8;
+    out[i + 2] = (x / 0x0001_0000 % 256) as u8;
+    out[i + 3] = (x / 0x0100_0000 % 256) as u8;
+    out[i + 4] = (x / 0x0001_0000_0000 % 256) as u8;
+    out[i + 5] = (x / 0x0100_0000_0000 % 256) as u8;
+    out[i + 6] = (x / 0x0001_0000_0000_0000 % 256) as u8;
+    out[i + 7] = (x / 0x0100_0000_0000_0000 % 256) as u8;
 }

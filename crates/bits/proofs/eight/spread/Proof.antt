@@ -4,7 +4,7 @@ use native.Mathlib.Omega.{arith}
 use native.Mathlib.Nat.{div-one}
 use lib.ListN.{length-set}
 use Rattle.bits.specs.Bits.{bits}
-use Rattle.bits.proofs.Unpack.{stores}
+use Rattle.bits.proofs.Slices.{stores}
 use Rattle.bits.proofs.eight.spread.Statement.{statement}
 use Rattle.bits.proofs.eight.spread.Tie as tie
 
@@ -90,14 +90,14 @@ returns c =
     let e = c .unpack .ensures in
     rw (
       stores (a .out .now) (a .i) _ _ _ _ _ _ _ _ (omega arith),
-      e 7 (omega arith),
-      e 6 (omega arith),
-      e 5 (omega arith),
-      e 4 (omega arith),
-      e 3 (omega arith),
-      e 2 (omega arith),
-      e 1 (omega arith),
       rw (div-one (c .unpack .result)) at (e 0 (omega arith)),
+      e 1 (omega arith),
+      e 2 (omega arith),
+      e 3 (omega arith),
+      e 4 (omega arith),
+      e 5 (omega arith),
+      e 6 (omega arith),
+      e 7 (omega arith),
     )
 
 pub spread-spec : {M : Type 1} → statement M
