@@ -37,10 +37,10 @@ real c =
     ⊎-elim
     (λ w. (w .3 .left, rw (w .1 .ensures) at (w .5 .left)))
     (λ w.
-      ⊎-elim
-      (λ v. absurd (false≢true (sym (v .1) ∙ not-false _ (w .left))))
-      (λ v. (v .0 .left, omega (arith, leb-true (a .self .day) 28 (sym (v .2) ∙ not-false _ (w .left)), months-long (firstYear + a .years) (a .month) (c .before .before .before .pre))))
-      (c .before .if1 .came))
+    ⊎-elim
+    (λ v. absurd (false≢true (sym (v .1) ∙ not-false _ (w .left))))
+    (λ v. (v .0 .left, omega (arith, leb-true (a .self .day) 28 (sym (v .2) ∙ not-false _ (w .left)), months-long (firstYear + a .years) (a .month) (c .before .before .before .pre))))
+    (c .before .if1 .came))
     (c .if2 .came)
 
 returns-3 : tie.Need-returns-3
