@@ -232,19 +232,24 @@ pub fn put_entry(state: State, fields: Fields, out: &mut [u8])
 {
     let minute = fields.minute;
     let daylight = state.daylight;
+    let daylight = codewords::daylight_number(daylight);
     let leap = state.leap;
-    out[0] = (minute / 0x100_0000 % 256) as u8;
-    out[1] = (minute / 0x1_0000 % 256) as u8;
-    out[2] = (minute / 0x100 % 256) as u8;
-    out[3] = (minute % 256) as u8;
-    out[4] = fields.length;
-    out[5] = codewords::daylight_number(daylight);
-    out[6] = codewords::leap_number(leap);
-    out[7] = fields.row;
-    out[8] = fields.notice;
-    out[9] = fields.place;
-    out[10] = fields.echo;
-    out[11] = 0;
+    let leap = codewords::leap_number(leap);
+    let entry: [u8; ENTRY_SIZE] = [
+        (minute / 0x100_0000 % 256) as u8,
+        (minute / 0x1_0000 % 256) as u8,
+        (minute / 0x100 % 256) as u8,
+        (minute % 256) as u8,
+        fields.length,
+        daylight,
+        leap,
+        fields.row,
+        fields.notice,
+        fields.place,
+        fields.echo,
+        0,
+    ];
+    bytes::copy(&entry, out);
 }
 
 // Reads one frame alone into an entry of 12 bytes.
