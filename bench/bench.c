@@ -62,28 +62,49 @@ static size_t read_frames(int which, uint32_t n)
     return done;
 }
 
+/* The dates and minutes that are turned into each other, made beforehand. */
+static struct {
+    uint32_t year, month, day, hour, minute, number;
+} dates[FRAMES];
+
+static void prepare_dates(void)
+{
+    uint32_t i, x = 0;
+
+    for (i = 0; i < FRAMES; i++, x = x * 1664525 + 1013904223) {
+        dates[i].year = 2000 + (x >> 8) % 100;
+        dates[i].month = 1 + (x >> 16) % 12;
+        dates[i].day = 1 + (x >> 20) % 28;
+        dates[i].hour = i % 24;
+        dates[i].minute = i % 60;
+        dates[i].number = x % WWVB_MINUTES;
+    }
+}
+
 static size_t make_dates(int which, uint32_t n)
 {
-    uint32_t i, minute = n;
+    uint32_t i;
 
-    for (i = 0; i < FRAMES; i++, minute = (minute + 7919 * 263) % WWVB_MINUTES) {
+    for (i = n; i < FRAMES; i++) {
+        uint32_t minute = dates[i].number;
         wwvb_date_reply r = which ? plain_minute_to_date(minute) : wwvb_minute_to_date(minute);
         sink += r.year + r.month + r.day + r.hour + r.minute + r.weekday;
     }
-    return FRAMES;
+    return FRAMES - n;
 }
 
 static size_t make_minutes(int which, uint32_t n)
 {
-    uint32_t i, x = n;
+    uint32_t i;
 
-    for (i = 0; i < FRAMES; i++, x = x * 1664525 + 1013904223) {
-        uint32_t year = 2000 + (x >> 8) % 100, month = 1 + (x >> 16) % 12, day = 1 + (x >> 20) % 28;
-        wwvb_minute_reply r = which ? plain_date_to_minute(year, month, day, i % 24, i % 60)
-                                    : wwvb_date_to_minute(year, month, day, i % 24, i % 60);
+    for (i = n; i < FRAMES; i++) {
+        uint32_t year = dates[i].year, month = dates[i].month, day = dates[i].day;
+        uint32_t hour = dates[i].hour, minute = dates[i].minute;
+        wwvb_minute_reply r = which ? plain_date_to_minute(year, month, day, hour, minute)
+                                    : wwvb_date_to_minute(year, month, day, hour, minute);
         sink += r.minute;
     }
-    return FRAMES;
+    return FRAMES - n;
 }
 
 static void measure(const char *what, work *w, uint32_t n)
@@ -152,6 +173,7 @@ int main(void)
             measure(readings[k], read_frames, sizes[i]);
             same(sizes[i]);
         }
+    prepare_dates();
     measure("minute to date", make_dates, 0);
     measure("date to minute", make_minutes, 0);
     return sink == 1; /* keeps the sums from being dropped */
