@@ -62,9 +62,11 @@ static size_t read_frames(int which, uint32_t n)
     return done;
 }
 
-/* The dates and minutes that are turned into each other, made beforehand. */
+/* The dates and minutes that are turned into each other, and how to show them as local dates, made beforehand. */
 static struct {
     uint32_t year, month, day, hour, minute, number;
+    uint32_t state, change_hour;
+    int32_t offset;
 } dates[FRAMES];
 
 static void prepare_dates(void)
@@ -78,6 +80,9 @@ static void prepare_dates(void)
         dates[i].hour = i % 24;
         dates[i].minute = i % 60;
         dates[i].number = x % WWVB_MINUTES;
+        dates[i].state = (x >> 12) % 4;
+        dates[i].change_hour = 1 + (x >> 14) % 3;
+        dates[i].offset = -600 + 60 * (int32_t)((x >> 18) % 7);
     }
 }
 
@@ -88,6 +93,20 @@ static size_t make_dates(int which, uint32_t n)
     for (i = n; i < FRAMES; i++) {
         uint32_t minute = dates[i].number;
         wwvb_date_reply r = which ? plain_minute_to_date(minute) : wwvb_minute_to_date(minute);
+        sink += r.year + r.month + r.day + r.hour + r.minute + r.weekday;
+    }
+    return FRAMES - n;
+}
+
+static size_t make_local_dates(int which, uint32_t n)
+{
+    uint32_t i;
+
+    for (i = n; i < FRAMES; i++) {
+        uint32_t minute = dates[i].number, state = dates[i].state, hour = dates[i].change_hour;
+        int32_t offset = dates[i].offset;
+        wwvb_date_reply r = which ? plain_local_date(minute, state, offset, hour)
+                                  : wwvb_local_date(minute, state, offset, hour);
         sink += r.year + r.month + r.day + r.hour + r.minute + r.weekday;
     }
     return FRAMES - n;
@@ -176,5 +195,6 @@ int main(void)
     prepare_dates();
     measure("minute to date", make_dates, 0);
     measure("date to minute", make_minutes, 0);
+    measure("local date", make_local_dates, 0);
     return sink == 1; /* keeps the sums from being dropped */
 }

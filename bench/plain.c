@@ -67,6 +67,31 @@ wwvb_date_reply plain_minute_to_date(uint32_t minute)
     return r;
 }
 
+wwvb_date_reply plain_local_date(uint32_t minute, uint32_t state, int32_t offset, uint32_t hour)
+{
+    wwvb_date_reply r = {0, 0, 0, 0, 0, 0, 0};
+    int32_t in_day = (int32_t)(minute % 1440), change = 60 * (int32_t)hour - offset, local;
+
+    if (minute >= WWVB_MINUTES)
+        r.refusal = WWVB_MINUTE_TOO_LARGE;
+    else if (state > 3 || offset < -600 || offset > -240 || hour < 1 || hour > 3)
+        r.refusal = WWVB_BAD_SETTING;
+    if (r.refusal)
+        return r;
+    local = (int32_t)minute + offset;
+    if (state == 3 || (state == 2 && in_day >= change) || (state == 1 && in_day < change - 60))
+        local += 60;
+    if (local >= 0)
+        return plain_minute_to_date((uint32_t)local);
+    r.year = 1999;
+    r.month = 12;
+    r.day = 31;
+    r.hour = (uint32_t)(local + 1440) / 60;
+    r.minute = (uint32_t)(local + 1440) % 60;
+    r.weekday = 6;
+    return r;
+}
+
 wwvb_minute_reply plain_date_to_minute(uint32_t year, uint32_t month, uint32_t day, uint32_t hour, uint32_t minute)
 {
     wwvb_minute_reply r = {WWVB_NOT_A_DATE, 0};

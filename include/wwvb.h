@@ -1,5 +1,5 @@
 /*
- * wwvb.h: the WWVB phase code at one bit a second: recordings of time frames, written and read, and dates.
+ * wwvb.h: the WWVB phase code at one bit a second: recordings of time frames, written and read, dates and local dates.
  *
  * A bit is a byte of value 0 or 1, the first sent first. A frame is one minute: 60 bits, or 59 or 61 in the last minute
  * of a month with a leap second. A minute number counts minutes from 2000-01-01 00:00 UTC, leap seconds ignored.
@@ -40,7 +40,8 @@ enum wwvb_refusal {
     WWVB_OK = 0,
     WWVB_ILLEGAL_PLAN = 1,    /* writing: the plan is not legal */
     WWVB_BAD_COUNT = 2,       /* writing: the count is not 1 to 1,000 */
-    WWVB_MINUTE_TOO_LARGE = 3, /* writing: the last minute is past 52,595,999; minute to date: the minute is */
+    WWVB_MINUTE_TOO_LARGE = 3, /* writing: the last minute is past 52,595,999; minute to date, local date: the
+                                  minute is */
     WWVB_NO_BIT_SPACE = 4,    /* writing: the buffer does not hold all the bits */
     WWVB_NO_ENTRY_SPACE = 5,  /* reading: fewer than 12 entry bytes are free */
     WWVB_TOO_SHORT = 6,       /* reading: fewer than 59 bytes are left */
@@ -53,7 +54,8 @@ enum wwvb_refusal {
     WWVB_BAD_LENGTH = 13,     /* reading: too few bytes for the length called for (one frame alone: not exactly so
                                  many), or one of those behind byte 58 is not 0 */
     WWVB_OUT_OF_ORDER = 14,   /* reading a recording: the minute is not one more than that of the frame before */
-    WWVB_NOT_A_DATE = 15      /* date to minute: no real date of 2000 to 2099 */
+    WWVB_NOT_A_DATE = 15,     /* date to minute: no real date of 2000 to 2099 */
+    WWVB_BAD_SETTING = 16     /* local date: the state is above 3, the offset not -600 to -240, or the hour not 1 to 3 */
 };
 
 /* Where the fields of an entry stand. An entry has 12 bytes, and the last is 0. */
@@ -69,7 +71,7 @@ enum wwvb_entry_byte {
     WWVB_ENTRY_ECHO = 10     /* 1 where the echo equals time[0], else 0 */
 };
 
-/* The refusal (0 or 3), and the date; refused, every other field is 0. Weekday 0 is Saturday, 6 is Friday. */
+/* The refusal (0 or 3; local date: 0, 3 or 16), and the date; refused, every other field is 0. Weekday 0 is Saturday, 6 is Friday. */
 typedef struct wwvb_date_reply {
     uint32_t refusal;
     uint32_t year;
@@ -105,6 +107,17 @@ wwvb_date_reply wwvb_minute_to_date(uint32_t minute);
 
 /* The minute number of a date. Year 2000 to 2099, month and day from 1, hour and minute from 0. Refusal: 15. */
 wwvb_minute_reply wwvb_date_to_minute(uint32_t year, uint32_t month, uint32_t day, uint32_t hour, uint32_t minute);
+
+/*
+ * The local date of a minute number, for a reader of local time:
+ *   state   the minute's daylight state, as an entry has it (WWVB_ENTRY_DAYLIGHT), 0 to 3
+ *   offset  standard time less UTC in minutes, -600 to -240; it need not be whole hours
+ *   hour    the local hour at which the clocks change, 1 to 3
+ * Daylight time is standard time plus 60 minutes: in state 3 all day, in state 2 from `hour` of standard time on, in state 1
+ * until `hour` of daylight time, in state 0 never. The state is not held against any plan. Year, month, day, hour, minute and
+ * weekday are all local; the first minutes of 2000 fall on 1999-12-31, a Friday. Refusals: 3, then 16.
+ */
+wwvb_date_reply wwvb_local_date(uint32_t minute, uint32_t state, int32_t offset, uint32_t hour);
 
 /*
  * Writes the frames of `count` minutes from `first` on, each directly behind the one before, by a plan of six numbers:

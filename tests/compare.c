@@ -20,10 +20,12 @@
 #define ROOM (WWVB_MAX_RECORDING + 4096)
 #define MINUTES WWVB_MINUTES
 
-enum call { TO_DATE, TO_MINUTE, WRITE, ONE, READ, CALLS };
+enum call { TO_DATE, TO_MINUTE, LOCAL, WRITE, ONE, READ, CALLS };
+#define NUMBERS 17
 
 static const char *const call_names[CALLS] = {
-    "wwvb_minute_to_date", "wwvb_date_to_minute", "wwvb_write_recording", "wwvb_read_frame", "wwvb_read_recording",
+    "wwvb_minute_to_date", "wwvb_date_to_minute", "wwvb_local_date",
+    "wwvb_write_recording", "wwvb_read_frame", "wwvb_read_recording",
 };
 
 /* The numbers that a call can give. */
@@ -32,14 +34,15 @@ static int can_give(enum call c, unsigned n)
     switch (c) {
     case TO_DATE: return n == 0 || n == 3;
     case TO_MINUTE: return n == 0 || n == 15;
+    case LOCAL: return n == 0 || n == 3 || n == 16;
     case WRITE: return n <= 4;
     case ONE: return n == 0 || (n >= 5 && n <= 13);
     default: return n == 0 || (n >= 5 && n <= 14);
     }
 }
 
-static unsigned long seen[CALLS][16]; /* by call and number */
-static unsigned long later[16];       /* refusals of a recording's later frames */
+static unsigned long seen[CALLS][NUMBERS]; /* by call and number */
+static unsigned long later[NUMBERS];       /* refusals of a recording's later frames */
 static unsigned long lengths[CALLS][62];
 static unsigned long cases;
 static uint64_t seed = 1;
@@ -54,7 +57,7 @@ static void fail(enum call c, const char *what)
 static void count(enum call c, size_t n)
 {
     cases++;
-    if (n > 15 || !can_give(c, (unsigned)n))
+    if (n >= NUMBERS || !can_give(c, (unsigned)n))
         fail(c, "the set of numbers that it can give");
     seen[c][n]++;
 }
@@ -169,18 +172,30 @@ static void lay_noise(struct buffer *b, size_t length)
 
 /* ---- the calls, each beside the reference */
 
+static void check_date(enum call c, wwvb_date_reply r, unsigned refusal, const struct ref_date *d)
+{
+    count(c, r.refusal);
+    if (r.refusal != refusal)
+        fail(c, "the number");
+    if (r.year != d->year || r.month != d->month || r.day != d->day || r.hour != d->hour || r.minute != d->minute
+        || r.weekday != d->weekday)
+        fail(c, "the date");
+}
+
 static void try_to_date(uint32_t minute)
 {
     struct ref_date d = {0, 0, 0, 0, 0, 0};
     unsigned refusal = ref_minute_to_date(minute, &d);
-    wwvb_date_reply r = wwvb_minute_to_date(minute);
 
-    count(TO_DATE, r.refusal);
-    if (r.refusal != refusal)
-        fail(TO_DATE, "the number");
-    if (r.year != d.year || r.month != d.month || r.day != d.day || r.hour != d.hour || r.minute != d.minute
-        || r.weekday != d.weekday)
-        fail(TO_DATE, "the date");
+    check_date(TO_DATE, wwvb_minute_to_date(minute), refusal, &d);
+}
+
+static void try_local(uint32_t minute, uint32_t state, int32_t offset, uint32_t hour)
+{
+    struct ref_date d = {0, 0, 0, 0, 0, 0};
+    unsigned refusal = ref_local_date(minute, state, offset, hour, &d);
+
+    check_date(LOCAL, wwvb_local_date(minute, state, offset, hour), refusal, &d);
 }
 
 static void try_to_minute(uint32_t year, uint32_t month, uint32_t day, uint32_t hour, uint32_t minute)
@@ -424,6 +439,22 @@ static void random_dates(void)
     try_to_minute(d.year, d.month, d.day, d.hour, d.minute);
 }
 
+static void random_local(void)
+{
+    uint32_t minute = one_in(3) ? below(36525) * 1440 + below(900) : one_in(3) ? below(1500) : below(MINUTES);
+    uint32_t state = below(4), hour = 1 + below(3);
+    int32_t offset = -240 - (int32_t)below(361);
+
+    if (one_in(4))
+        switch (below(4)) {
+        case 0: minute = odd_number(MINUTES - 1); break;
+        case 1: state = odd_number(3); break;
+        case 2: offset = one_in(2) ? (int32_t)odd_number(600) : -239 + (int32_t)below(3) - 362 * (int32_t)below(2); break;
+        default: hour = odd_number(3); break;
+        }
+    try_local(minute, state, offset, hour);
+}
+
 static void random_write(void)
 {
     struct ref_plan p = random_plan();
@@ -516,6 +547,70 @@ static void boundary_dates(void)
             try_to_minute(2099, 2, 28, parts[i], parts[k]);
             try_to_minute(parts[i], 1, 1, 0, parts[k]);
         }
+}
+
+/* Every minute of a year's first and last days, and around each limit of a day, by each state, offset and hour. */
+static void boundary_local(void)
+{
+    static const uint32_t days[] = {0, 1, 59, 60, 365, 366, 4453, 36524};
+    static const int32_t offsets[] = {-601, -600, -599, -540, -480, -420, -360, -330, -300, -241, -240, -239};
+    uint32_t state, hour;
+    size_t d, o;
+    int32_t k;
+
+    for (d = 0; d < sizeof days / sizeof *days; d++)
+        for (o = 0; o < sizeof offsets / sizeof *offsets; o++)
+            for (state = 0; state <= 4; state++)
+                for (hour = 0; hour <= 4; hour++) {
+                    static const int32_t around[] = {-60, 0, 60, 120, 180, 240};
+                    for (k = 0; k < 18; k++) {
+                        int32_t minute = around[k / 3] - offsets[o] + k % 3 - 1;
+                        try_local(days[d] * 1440 + (uint32_t)minute, state, offsets[o], hour);
+                    }
+                    try_local(days[d] * 1440, state, offsets[o], hour);
+                    try_local(days[d] * 1440 + 1439, state, offsets[o], hour);
+                }
+    for (k = 0; k < 1440; k++)
+        try_local((uint32_t)k, 0, -600, 2);
+    try_local(MINUTES, 4, 0, 0);
+    try_local(0xffffffffu, 0, -240, 1);
+    try_local(0, 0xffffffffu, -240, 1);
+    try_local(0, 0, INT32_MIN, 1);
+    try_local(0, 0, INT32_MAX, 1);
+    try_local(0, 0, -240, 0xffffffffu);
+}
+
+/* The clock of a yard through a year: minute by minute it moves by one, but for one hour forward and one back. */
+static void boundary_clock(int32_t offset, uint32_t hour, uint32_t year)
+{
+    struct ref_plan p = {0, 10, 37, 0, 0, 0};
+    struct ref_date d = {0, 1, 1, 0, 0, 0};
+    uint32_t first, last, t, forward = 0, back = 0;
+    int64_t before = 0;
+
+    d.year = year;
+    ref_date_to_minute(&d, &first);
+    d.year = year + 1;
+    if (ref_date_to_minute(&d, &last) != 0)
+        last = MINUTES;
+    for (t = first; t < last; t++) {
+        wwvb_date_reply r = wwvb_local_date(t, ref_daylight(&p, t), offset, hour);
+        struct ref_date local = {r.year, r.month, r.day, r.hour, r.minute, 0};
+        uint32_t clock = 0;
+        int64_t now;
+
+        count(LOCAL, r.refusal);
+        now = ref_date_to_minute(&local, &clock) == 0 ? (int64_t)clock : (int64_t)r.hour * 60 + r.minute - 1440;
+        if (t > first && now != before + 1) {
+            forward += now == before + 61 && r.hour == hour + 1 && r.minute == 0 && r.month == 3;
+            back += now == before - 59 && r.hour == hour - 1 && r.minute == 0 && r.month == 11;
+            if (now != before + 61 && now != before - 59)
+                fail(LOCAL, "the step of the clock");
+        }
+        before = now;
+    }
+    if (forward != 1 || back != 1)
+        fail(LOCAL, "the number of changes in a year");
 }
 
 static void boundary_plans(void)
@@ -766,7 +861,7 @@ static int report(void)
 
     for (c = 0; c < CALLS; c++) {
         printf("%-22s", call_names[c]);
-        for (n = 0; n < 16; n++)
+        for (n = 0; n < NUMBERS; n++)
             if (can_give((enum call)c, n)) {
                 printf(" %u:%lu", n, seen[c][n]);
                 missing += seen[c][n] == 0;
@@ -806,7 +901,11 @@ int main(int argc, char **argv)
     make(&out_buffer);
     document();
     boundary_dates();
+    boundary_local();
     if (!exact) {
+        boundary_clock(-600, 1, 2000);
+        boundary_clock(-360, 2, 2026);
+        boundary_clock(-240, 3, 2099);
         boundary_plans();
         boundary_changes();
         boundary_counts();
@@ -816,6 +915,7 @@ int main(int argc, char **argv)
     boundary = cases;
     while (cases - boundary < wanted) {
         random_dates();
+        random_local();
         random_write();
         random_one();
         random_read();

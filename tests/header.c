@@ -26,5 +26,7 @@ int main(void)
         return 1;
     if (wwvb_write_recording(1, 0, 0, 0, 0, 0, 0, 1, NULL, 0).refusal != WWVB_NO_BIT_SPACE)
         return 1;
+    if (wwvb_local_date(0, 0, -600, 2).day != 31 || wwvb_local_date(0, 4, -600, 2).refusal != WWVB_BAD_SETTING)
+        return 1;
     return a[0] + b[0] + c[0] + d[0] + e[0];
 }

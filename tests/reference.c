@@ -67,6 +67,29 @@ unsigned ref_date_to_minute(const struct ref_date *d, uint32_t *minute)
     return 0;
 }
 
+/* Counts in 64 signed bits, and steps back from 2000 where the local minute lies before it. */
+unsigned ref_local_date(uint32_t minute, uint32_t state, int32_t offset, uint32_t hour, struct ref_date *date)
+{
+    int64_t in_day = minute % 1440, local = (int64_t)minute + offset;
+    int64_t begins = 60 * (int64_t)hour - offset, ends = 60 * ((int64_t)hour - 1) - offset;
+
+    if (minute >= MINUTES)
+        return 3;
+    if (state > 3 || offset < -600 || offset > -240 || hour < 1 || hour > 3)
+        return 16;
+    if (state == 3 || (state == 2 && in_day >= begins) || (state == 1 && in_day < ends))
+        local += 60;
+    if (local >= 0) {
+        *date = date_of((uint32_t)local);
+    } else {
+        struct ref_date eve = {1999, 12, 31, 0, 0, 6};
+        eve.hour = (uint32_t)(local + 1440) / 60;
+        eve.minute = (uint32_t)(local + 1440) % 60;
+        *date = eve;
+    }
+    return 0;
+}
+
 int ref_last_of_month(uint32_t minute)
 {
     struct ref_date d = date_of(minute);
@@ -206,7 +229,7 @@ static unsigned on(const struct ref_plan *p, uint32_t day)
     return day >= begins && day < ends;
 }
 
-static unsigned daylight(const struct ref_plan *p, uint32_t minute)
+unsigned ref_daylight(const struct ref_plan *p, uint32_t minute)
 {
     uint32_t day = minute / 1440;
 
@@ -248,7 +271,7 @@ static void put(uint8_t *out, const char *word)
 
 static unsigned write_frame(const struct ref_plan *p, uint32_t minute, uint8_t *out)
 {
-    unsigned state = daylight(p, minute), leap_state = leap(p, minute), length = length_for(leap_state, minute), place;
+    unsigned state = ref_daylight(p, minute), leap_state = leap(p, minute), length = length_for(leap_state, minute), place;
     const char *word = state_words[leap_state][state];
     uint8_t frame[61] = {0}, code[31];
 

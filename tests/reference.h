@@ -1,6 +1,6 @@
 /*
- * The WWVB phase code in plain C, written from document 01 alone and for reading, not for speed: its own tables, its
- * own calendar, and correction by trying the 32 candidates. It shares nothing with the library but document 01.
+ * The WWVB phase code in plain C, written from documents 01 and 02 alone and for reading, not for speed: its own tables,
+ * its own calendar, and correction by trying the 32 candidates. It shares nothing with the library but these documents.
  */
 #ifndef REFERENCE_H
 #define REFERENCE_H
@@ -22,12 +22,16 @@ struct ref_date {
    entries, bits and buffer of a recording's reading, which are those of the frames before the refused one. */
 unsigned ref_minute_to_date(uint32_t minute, struct ref_date *date);
 unsigned ref_date_to_minute(const struct ref_date *date, uint32_t *minute);
+unsigned ref_local_date(uint32_t minute, uint32_t state, int32_t offset, uint32_t hour, struct ref_date *date);
 unsigned ref_write(const struct ref_plan *plan, uint32_t first, uint32_t count, uint8_t *out, size_t space, size_t *bits);
 unsigned ref_read_frame(const uint8_t *bits, size_t length, uint8_t *entry, size_t space);
 unsigned ref_read(const uint8_t *bits, size_t length, uint8_t *entries, size_t space, size_t *count, size_t *used);
 
 /* The number of the bit of a frame at a place, 1 to 31, of its time word. */
 unsigned ref_bit_of_place(unsigned place);
+
+/* The daylight state, 0 to 3, that a legal plan gives a minute. */
+unsigned ref_daylight(const struct ref_plan *plan, uint32_t minute);
 
 /* 1 where the minute is the last of its month. */
 int ref_last_of_month(uint32_t minute);

@@ -1,6 +1,6 @@
 #!/usr/bin/env python3
-"""What the program `vectors` reads, and what it has to write: a model of the WWVB phase code by itself, from document 01
-and the tables of NIST's Enhanced WWVB Broadcast Format (Revision 1.0), in the plainest form and with Python's own
+"""What the program `vectors` reads, and what it has to write: a model of the WWVB phase code by itself, from documents 01
+and 02 and the tables of NIST's Enhanced WWVB Broadcast Format (Revision 1.0), in the plainest form and with Python's own
 calendar. It shares no code with the crates.
 
 A case is a line of the program's input: a letter that says what is tried, numbers that are not printed, a space, a text,
@@ -314,9 +314,7 @@ def date(minute):
     if minute > LAST:
         answer = (3,)
     else:
-        d = date_of(minute)
-        weekday = (d.isoweekday() + 1) % 7           # Saturday is 0
-        answer = (0, d.year, d.month, d.day, d.hour, d.minute, weekday, 0, minute)
+        answer = (0, *shown(date_of(minute)), 0, minute)
     case("d", f"minute {minute}:", spaced(*answer))
 
 
@@ -328,6 +326,36 @@ def minute(*numbers):
         real = False
     answer = (0, minute_of(*numbers)) if real else (15,)
     case("m", f"date{spaced(*numbers)}:", spaced(*answer))
+
+
+def shown(d):
+    """A date as its six values; Saturday is 0."""
+    return (d.year, d.month, d.day, d.hour, d.minute, (d.isoweekday() + 1) % 7)
+
+
+def local(m, state, offset, hour):
+    """The local date by the state, as document 02 has it."""
+    if m > LAST:
+        answer = (3,)
+    elif state > 3 or not -600 <= offset <= -240 or not 1 <= hour <= 3:
+        answer = (16,)
+    else:
+        m_of_day = m % 1440
+        on = (False, m_of_day < 60 * (hour - 1) - offset, m_of_day >= 60 * hour - offset, True)[state]
+        answer = (0, *shown(date_of(m + offset + 60 * on)))
+    case("t", f"minute {m}, state {state}, offset {offset}, hour {hour}:", spaced(*answer))
+
+
+def local_changes(plan, year, offset, hour):
+    """The clock around both changes, from their instants and not from the state: the local clock of standard time strikes the
+    hour in spring, that of daylight time in autumn."""
+    _, spring, autumn, *_ = plan
+    begins = change_minute(spring, year) + 60 * hour - offset
+    ends = change_minute(autumn, year) + 60 * hour - (offset + 60)
+    for m in (begins - 1, begins, ends - 60, ends - 1, ends, ends + 59, ends + 60):
+        state = int(facts(plan, m)[1], 2)
+        answer = (0, *shown(date_of(m + offset + 60 * (begins <= m < ends))))
+        case("t", f"minute {m}, state {state}, offset {offset}, hour {hour}:", spaced(*answer))
 
 
 def around(m):
@@ -494,6 +522,37 @@ def calendar_lines():
         minute(*d)
 
 
+def local_lines():
+    for year in (2000, 2007, 2012, 2026, 2099):
+        for offset in range(-600, -239, 60):
+            local_changes(USUAL, year, offset, 2)
+    for hour in (1, 3):
+        local_changes(USUAL, 2012, -330, hour)
+        local_changes((0, 1, 48, 0, 0, 0), 2031, -570, hour)
+    for offset in range(-600, -239, 60):
+        for state in range(4):
+            local(0, state, offset, 2)
+        local(LAST, 0, offset, 2)
+        local(LAST, 3, offset, 2)
+    for m in (1, 539, 540, 599, 600, 1439):
+        local(m, 0, -600, 2)
+        local(m, 3, -600, 2)
+    for d in ((2000, 2, 29), (2000, 3, 1), (2001, 1, 1), (2012, 3, 1), (2012, 7, 1), (2099, 3, 1)):
+        for m in (239, 240, 299, 300):
+            local(minute_of(*d) + m, 0, -300, 2)
+            local(minute_of(*d) + m, 3, -300, 2)
+    # each limit of a day's two kinds of change, and the states where they have no place
+    for hour in (1, 2, 3):
+        for m in (60 * hour + 299, 60 * hour + 300, 60 * hour + 239, 60 * hour + 240):
+            for state in range(4):
+                local(JULY_4 // 1440 * 1440 + m, state, -300, hour)
+    for numbers in ((LAST + 1, 0, -300, 2), (2**32 - 1, 0, -300, 2), (LAST + 1, 4, -601, 0), (LAST, 4, -300, 2),
+                    (LAST, 2**32 - 1, -300, 2), (JULY_4, 3, -601, 2), (JULY_4, 3, -600, 2), (JULY_4, 3, -240, 2),
+                    (JULY_4, 3, -239, 2), (JULY_4, 3, 0, 2), (JULY_4, 3, 300, 2), (JULY_4, 3, -300, 0),
+                    (JULY_4, 3, -300, 1), (JULY_4, 3, -300, 3), (JULY_4, 3, -300, 4), (JULY_4, 3, -300, 2**32 - 1)):
+        local(*numbers)
+
+
 def writings():
     for plan in ((3, 0, 0, 0, 0, 0), (0, 0, 37, 0, 0, 0), (0, 25, 37, 0, 0, 0), (0, 10, 24, 0, 0, 0), (0, 10, 49, 0, 0, 0),
                  (1, 10, 0, 0, 0, 0), (1, 0, 37, 0, 0, 0), (2, 0, 37, 0, 0, 0), (0, 10, 37, 1200, 1, 0),
@@ -654,6 +713,7 @@ def listings():
 def main():
     tables()
     calendar_lines()
+    local_lines()
     writings()
     refused_readings()
     listings()

@@ -1,11 +1,12 @@
 -- What is proved of minutes and dates (document 01, "Minutes and dates", "Questions in order" and "Bench table").
 -- Assumes nothing.
-use Prim.Native.Nat.{ℕ, _*_, _%_, _≤_, _<_}
+use Prim.Native.Nat.{ℕ, _+_, _*_, _%_, _≤_, _<_}
 use mathlib.Core.Path.{_≡_}
-use mathlib.Core.Bool.{true}
+use mathlib.Core.Bool.{true, false}
 use mathlib.Core.List.{[], _∷_, map}
 use mathlib.Core.Logic.{_↔_, _⊎_}
-use Rattle.calendar.specs.Calendar.{yearCount, dayCount, minuteCount, monthCount, before, yearLengths, dateAt, dayNumber, minuteAt, monthLength, realDate, monthIndex, lastOfMonth, firstDay, lastMinute}
+use lib.IntN.{pos, negsuc}
+use Rattle.calendar.specs.Calendar.{yearCount, dayCount, minuteCount, monthCount, before, yearLengths, dateAt, dayNumber, minuteAt, monthLength, realDate, monthIndex, lastOfMonth, firstDay, lastMinute, dateOn, minuteOn}
 use Rattle.calendar.specs.Answer.{found, refused, dateValues, dateOfMinute, minuteOfDate}
 use Rattle.calendar.specs.declared.Date.{Date}
 
@@ -74,6 +75,21 @@ LastMinuteDate =
     × (dateAt t .day ≡ monthLength (dateAt t))
     × (dateAt t .hour ≡ 23)
     × (dateAt t .minute ≡ 59))
+
+-- the minutes from -1,440 on have dates too, each of which gives its minute
+abbrev pub BelowRoundTrip : Type 0
+BelowRoundTrip =
+    ((t : ℕ) → t < minuteCount → minuteOn (dateOn (pos t)) ≡ pos t)
+    × ((n : ℕ) → n < 1440 → minuteOn (dateOn (negsuc n)) ≡ negsuc n)
+
+-- those below 0 lie on the last day of a year that question 15 does not take; the next day has the next weekday
+abbrev pub DayBelow : Type 0
+DayBelow =
+    (n : ℕ)
+    → (realDate (dateOn (negsuc n)) ≡ false)
+    × (dateOn (negsuc n) .month ≡ 12)
+    × (dateOn (negsuc n) .day ≡ monthLength (dateOn (negsuc n)))
+    × ((dateOn (negsuc n) .weekday + 1) % 7 ≡ dateOn (pos 0) .weekday)
 
 -- the rows of the bench table on dates
 abbrev pub BenchDates : Type 0

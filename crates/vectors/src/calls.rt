@@ -7,9 +7,10 @@ use crate::sending;
 // Tries a case: its letter, its text, and the input behind, of which the first n bytes stand in its line.
 pub fn call(letter: u8, text: &[u8], behind: &[u8], n: usize) {
     match letter {
-        // the date of a minute, the minute of a date
+        // the date of a minute, the minute of a date, the local date of a minute
         b'd' => dates::date(text),
         b'm' => dates::minute(text),
+        b't' => dates::local(text),
         // given bits as one frame, as a recording
         b'o' | b'a' => reading::given(letter, text, behind, n),
         // a line of `station` with no line feed, with one

@@ -1,7 +1,9 @@
 // The calls for programs in C: numbers, byte slices, and replies that are structs of numbers of one width.
 ghost use mathlib.Core.Path.{_≡_};
-ghost use lib.ListN.{length};
-ghost use Rattle.calendar.specs.Answer.{dateOfMinute, minuteOfDate};
+ghost use mathlib.Core.List.{_∷_};
+ghost use lib.ListN.{length, replicate};
+ghost use Rattle.calendar.specs.Answer.{dateValues, dateOfMinute, minuteOfDate};
+ghost use Rattle.localtime.specs.Local.{localOf};
 ghost use Rattle.frame.specs.Reading.{readOne};
 ghost use Rattle.recording.specs.Writing.{writeResult, bufferWritten};
 ghost use Rattle.recording.specs.Reading.{readInto};
@@ -9,6 +11,7 @@ ghost use Rattle.wwvb.specs.Replies.{planOf, dateOf, replyNumbers, dateR
 use calendar::Date;
 use calendar::DateAnswer;
 use calendar::MinuteAnswer;
+use localtime::LocalAnswer;
 use plan::Plan;
 use recording::WriteAnswer;
 
@@ -46,6 +49,36 @@ pub struct ReadReply {
     pub refusal: usize,
 }
 
+// 0 and a date.
+fn found(date: Date) -> DateReply
+    ensures { λ r. ⌜ dateReply r ≡ 0 ∷ dateValues date ⌝ }
+{
+    DateReply {
+        refusal: 0,
+        year: date.year,
+        month: date.month,
+        day: date.day,
+        hour: date.hour,
+        minute: date.minute,
+        weekday: date.weekday,
+    }
+}
+
+// A refusal and no date.
+fn refused(refusal: u32) -> DateReply
+    ensures { λ r. ⌜ dateReply r ≡ refusal ∷ replicate 6 0 ⌝ }
+{
+    DateReply {
+        refusal,
+        year: 0,
+        month: 0,
+        day: 0,
+        hour: 0,
+        minute: 0,
+        weekday: 0,
+    }
+}
+
 // The date of a minute.
 #[no_mangle]
 pub extern "C" fn wwvb_minute_to_date(minute: u32) -> DateReply
@@ -53,24 +86,21 @@ pub extern "C" fn wwvb_minute_to_date(minute: u32) -> DateReply
 {
     let answer = Date::from_minute(minute);
     match answer {
-        DateAnswer::Found(date) => DateReply {
-            refusal: 0,
-            year: date.year,
-            month: date.month,
-            day: date.day,
-            hour: date.hour,
-            minute: date.minute,
-            weekday: date.weekday,
-        },
-        DateAnswer::TooLarge => DateReply {
-            refusal: 3,
-            year: 0,
-            month: 0,
-            day: 0,
-            hour: 0,
-            minute: 0,
-            weekday: 0,
-        },
+        DateAnswer::Found(date) => found(date),
+        DateAnswer::TooLarge => refused(3),
+    }
+}
+
+// The local date of a minute with its daylight state, by a standard offset and a change hour.
+#[no_mangle]
+pub extern "C" fn wwvb_local_date(minute: u32, state: u32, offset: i32, hour: u32) -> DateReply
+    ensures { λ r. ⌜ dateReply r ≡ replyNumbers 6 (localOf minute state offset hour) ⌝ }
+{
+    let answer = localtime::local_date(minute, state, offset, hour);
+    match answer {
+        LocalAnswer::Found(date) => found(date),
+        LocalAnswer::TooLarge => refused(3),
+        LocalAnswer::BadSetting => refused(16),
     }
 }
 
