@@ -70,7 +70,7 @@ read-back x b h g =
 pub local-dates : LocalDates
 unfolding localOf localDate localMinute
 local-dates t state offset hour h g =
-    let l = legal-offset offset (setting-parts state offset hour g .0) in
+    let l = legal-offset offset (setting-parts state offset hour g .1) in
     let a = added t state offset hour in
     let e = regroup t a offset in (
       rw (lt-ltb t minuteCount h, g, e),

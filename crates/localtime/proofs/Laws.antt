@@ -1,8 +1,9 @@
 -- Laws of offsets, and of their readings as signed numbers.
 -- Assumes nothing.
-use Prim.Native.Nat.{ℕ, suc, _+_, _%_, _≤_, _<_}
+use Prim.Native.Nat.{ℕ, zero, suc, _+_, _-_, _*_, _/_, _%_, _≤_, _<_}
 use mathlib.Core.Path.{_≡_, refl, sym, ap, subst, _∙_}
 use mathlib.Core.Bool.{Bool, true, false, cond, _&&_, and-false, false≢true}
+use native.Mathlib.Decide.{decLt}
 use native.Mathlib.Omega.{arith}
 use lib.Dec.{leb, ltb}
 use lib.IntN.{ℤ, pos, negsuc, negℤ, negℤ-negℤ, natAbs, _-ℤ_}
@@ -10,7 +11,7 @@ use lib.Signed.{ltZ, leZ}
 use mir.Syntax.{w32}
 use mir.Val.{Fits, SFits, ofZ, toZ}
 use mir.Facts.{toZ-ofZ}
-use borrow.Author.Tests.{ltb-true, ltb-false, lt-ltb, leb-true, le-leb, lt-leb}
+use borrow.Author.Tests.{ltb-true, ltb-false, lt-ltb, le-ltb, leb-true, le-leb, lt-leb}
 use Rattle.bits.proofs.Tests.{both-true}
 use Rattle.calendar.specs.Calendar.{minuteCount, dateOn}
 use Rattle.calendar.specs.Answer.{found, dateValues}
@@ -37,9 +38,12 @@ unfolding legalHour
 legal-hour hour e = let h = both-true (leb 1 hour) (leb hour 3) e in (leb-true 1 hour (h .0), leb-true hour 3 (h .1))
 
 -- the parts of a legal setting
-pub setting-parts : (state : ℕ) (offset : ℤ) (hour : ℕ) → legalSetting state offset hour ≡ true → (legalOffset offset ≡ true) × (legalHour hour ≡ true)
+pub setting-parts : (state : ℕ) (offset : ℤ) (hour : ℕ) → legalSetting state offset hour ≡ true → (state ≤ 3) × (legalOffset offset ≡ true) × (legalHour hour ≡ true)
 unfolding legalSetting
-setting-parts state offset hour e = both-true (legalOffset offset) (legalHour hour) (both-true (leb state 3) (legalOffset offset && legalHour hour) e .1)
+setting-parts state offset hour e =
+    let all = both-true (leb state 3) (legalOffset offset && legalHour hour) e in
+    let rest = both-true (legalOffset offset) (legalHour hour) (all .1) in
+    (leb-true state 3 (all .0), rest .0, rest .1)
 
 -- the tests of an offset
 pub too-low : (z : ℤ) → ltZ z (negsuc 599) ≡ true → legalOffset z ≡ false
@@ -105,7 +109,7 @@ pub local-found : (t state : ℕ) (offset : ℤ) (hour b : ℕ) → t < minuteCo
     → localOf t state offset hour ≡ found (dateValues (dateOn (pos (t + added t state (negℤ (pos b)) hour) -ℤ pos b)))
 unfolding localOf localDate localMinute
 local-found t state offset hour b h g e =
-    let is = legal-offset offset (setting-parts state offset hour g .0) .is ∙ ap (λ (n : ℕ). negℤ (pos n)) (sym e) in
+    let is = legal-offset offset (setting-parts state offset hour g .1) .is ∙ ap (λ (n : ℕ). negℤ (pos n)) (sym e) in
     rw (lt-ltb t minuteCount h, g, is)
 
 pub added-small : (t state : ℕ) (offset : ℤ) (hour : ℕ) → added t state offset hour ≤ 60
@@ -115,3 +119,23 @@ added-small t state offset hour = small-cond (daylightHolds state offset hour (t
     small-cond : (b : Bool) → cond b 60 0 ≤ 60
     small-cond true = omega arith
     small-cond false = omega arith
+
+cond-same : (x : Bool) (n : ℕ) → cond x n n ≡ n
+cond-same true n = refl
+cond-same false n = refl
+
+-- the minutes added, by the two bits of the state: the low one until the change, the high one from then on
+pub added-by-bits : (t state b hour : ℕ) → state ≤ 3
+    → added t state (negℤ (pos b)) hour ≡ cond (ltb (t % 1440) (60 * (hour - state % 2) + b)) (60 * (state % 2)) (60 * (state / 2))
+unfolding added daylightHolds
+added-by-bits t zero b hour h = sym (cond-same (ltb (t % 1440) (60 * (hour - 0) + b)) 0)
+added-by-bits t (suc zero) b hour h = rw utc-of
+added-by-bits t (suc (suc zero)) b hour h =
+    let e : hour - 0 ≡ hour = omega arith in
+    rw (utc-of, e)
+    (elim (decLt (t % 1440) (60 * hour + b)) [
+      | yes l ↦ rw (lt-leb (60 * hour + b) (t % 1440) l, lt-ltb (t % 1440) (60 * hour + b) l)
+      | no l ↦ rw (le-leb (60 * hour + b) (t % 1440) (omega arith), le-ltb (t % 1440) (60 * hour + b) (omega arith))
+    ])
+added-by-bits t (suc (suc (suc zero))) b hour h = sym (cond-same (ltb (t % 1440) (60 * (hour - 1) + b)) 60)
+added-by-bits t (suc (suc (suc (suc n)))) b hour h = absurd (omega arith)
