@@ -2,11 +2,11 @@
 -- Assumes nothing.
 use Prim.Native.Nat.{ℕ, suc, _+_, _-_, _*_, _/_, _%_, _≤_, _<_}
 use mathlib.Core.Path.{_≡_, refl, sym, ap, subst, _∙_}
-use mathlib.Core.Bool.{Bool, true, false, cond, and-true, and-false}
-use native.Mathlib.Decide.{decLt, ℕ-discrete}
+use mathlib.Core.Bool.{Bool, true, false, cond, and-false}
+use native.Mathlib.Decide.{decLt}
 use native.Mathlib.Omega.{arith}
-use lib.Dec.{leb, ltb}
-use lib.IntN.{ℤ, pos, negℤ, natAbs, _+ℤ_, _-ℤ_}
+use lib.Dec.{leb}
+use lib.IntN.{ℤ, pos, natAbs, _+ℤ_}
 use borrow.Author.Tests.{lt-ltb, le-ltb, le-leb, lt-leb, eq-eqb}
 use Rattle.calendar.specs.declared.Place.{Place}
 use Rattle.calendar.specs.Calendar.{yearCount, dayCount, minuteCount, before, yearLengths, yearOfDay, dateFrom, dateAt, dateOn}
@@ -19,99 +19,11 @@ use Rattle.plan.specs.declared.Plan.{Plan}
 use Rattle.plan.proofs.Follows.{spring-late, in-order, autumn-early}
 use Rattle.plan.proofs.Changes.{changes-in-year}
 use Rattle.codewords.specs.CodeWords.{daylightNumber}
-use Rattle.localtime.specs.Local.{utcOf, daylightHolds, added, localMinute}
+use Rattle.localtime.specs.Local.{daylightHolds, added, localMinute}
 use Rattle.localtime.specs.Theorems.{clock, springChange, autumnChange, Changing, Shows, SpringForward, AutumnBack, OtherwiseByOne}
-use Rattle.localtime.proofs.Laws.{Behind, legal-offset, legal-hour, utc-of, utc-at}
+use Rattle.localtime.proofs.Laws.{Behind, legal-offset, legal-hour, utc-at}
+use Rattle.localtime.proofs.Holds.{holds-between, same-within}
 use Rattle.localtime.proofs.Answers.{regroup}
-
--- the same distance from both tells the same order
-leb-shift : (x a b : ℕ) → leb (x + a) (x + b) ≡ leb a b
-leb-shift x a b =
-    elim (decLt b a) [
-      | yes l ↦ rw (lt-leb a b l, lt-leb (x + a) (x + b) (omega arith))
-      | no l ↦ rw (le-leb a b (omega arith), le-leb (x + a) (x + b) (omega arith))
-    ]
-
-ltb-shift : (x a b : ℕ) → ltb (x + a) (x + b) ≡ ltb a b
-ltb-shift x a b =
-    elim (decLt a b) [
-      | yes l ↦ rw (lt-ltb a b l, lt-ltb (x + a) (x + b) (omega arith))
-      | no l ↦ rw (le-ltb a b (omega arith), le-ltb (x + a) (x + b) (omega arith))
-    ]
-
--- between two change days daylight time holds from the one's minute on and before the other's
-module _ (s a d m b hour : ℕ) (order : s < a) (m-day : m < 1440) (high : b ≤ 600) (from-one : 1 ≤ hour) (to-three : hour ≤ 3) where
-  abbrev begins : ℕ
-  begins = 60 * hour + b
-
-  abbrev ends : ℕ
-  ends = 60 * (hour - 1) + b
-
-  pub holds-between : daylightHolds (daylightNumber (changing s a d)) (negℤ (pos b)) hour m ≡ within (s * 1440 + begins) (a * 1440 + ends) (d * 1440 + m)
-  unfolding daylightHolds changing within
-  holds-between =
-      elim (decLt d s) [
-        | yes l ↦ rw (lt-leb s d l, lt-leb (s + 1) d (omega arith), lt-leb (s * 1440 + begins) (d * 1440 + m) (omega arith))
-        | no l ↦
-            elim (ℕ-discrete d s) [
-              | yes e ↦
-                  rw (e, le-leb s s (omega arith), lt-ltb s a order, lt-leb (s + 1) s (omega arith), utc-of, leb-shift, lt-ltb (s * 1440 + m) (a * 1440 + ends) (omega arith), and-true)
-              | no n ↦
-                  elim (decLt d a) [
-                    | yes k ↦
-                        rw (
-                          le-leb s d (omega arith),
-                          lt-ltb d a k,
-                          le-leb (s + 1) d (omega arith),
-                          lt-ltb d (a + 1) (omega arith),
-                          le-leb (s * 1440 + begins) (d * 1440 + m) (omega arith),
-                          lt-ltb (d * 1440 + m) (a * 1440 + ends) (omega arith),
-                        )
-                    | no k ↦
-                        elim (ℕ-discrete d a) [
-                          | yes e ↦
-                              rw (
-                                e,
-                                le-leb s a (omega arith),
-                                le-ltb a a (omega arith),
-                                le-leb (s + 1) a (omega arith),
-                                lt-ltb a (a + 1) (omega arith),
-                                utc-of,
-                                le-leb (s * 1440 + begins) (a * 1440 + m) (omega arith),
-                                ltb-shift,
-                              )
-                          | no e ↦
-                              rw (
-                                le-leb s d (omega arith),
-                                le-ltb d a (omega arith),
-                                le-leb (s + 1) d (omega arith),
-                                le-ltb d (a + 1) (omega arith),
-                                le-leb (s * 1440 + begins) (d * 1440 + m) (omega arith),
-                                le-ltb (d * 1440 + m) (a * 1440 + ends) (omega arith),
-                              )
-                        ]
-                  ]
-            ]
-      ]
-
--- where no change comes between them, two minutes are within alike
-same-within : (first end t : ℕ) → (t + 1 ≡ first → ⊥) → (t + 1 ≡ end → ⊥) → within first end (t + 1) ≡ within first end t
-unfolding within
-same-within first end t f e = rw (first-test, end-test)
-  where
-    first-test : leb first (t + 1) ≡ leb first t
-    first-test =
-        elim (decLt t first) [
-          | yes l ↦ rw (lt-leb first t l, lt-leb first (t + 1) (omega arith))
-          | no l ↦ rw (le-leb first t (omega arith), le-leb first (t + 1) (omega arith))
-        ]
-
-    end-test : ltb (t + 1) end ≡ ltb t end
-    end-test =
-        elim (decLt t end) [
-          | yes l ↦ rw (lt-ltb t end l, lt-ltb (t + 1) end (omega arith))
-          | no l ↦ rw (le-ltb t end (omega arith), le-ltb (t + 1) end (omega arith))
-        ]
 
 -- a local minute's date shows its hour and minute
 shows : (z : ℤ) (day hour minute : ℕ) → hour < 24 → minute < 60 → z ≡ pos (day * 1440 + hour * 60 + minute) → Shows z day hour minute
@@ -170,98 +82,92 @@ module _ (p : Plan) (offset : ℤ) (hour : ℕ) (given : Changing p offset hour)
   in-range y h =
       (in-order (p .spring) (p .autumn) y, omega (arith, autumn-early (p .autumn) y h, before-mono yearLengths (suc y) yearCount (omega arith), days-of-years))
 
-  -- a minute of the spring day, and one of the autumn day
-  in-spring : (y m : ℕ) → y < yearCount → m < 1440 → yearOfDay ((springDay (p .spring) y * 1440 + m) / 1440) .index ≡ y
-  in-spring y m h l =
-      let e : (springDay (p .spring) y * 1440 + m) / 1440 ≡ springDay (p .spring) y = omega arith in
-      rw e (changes-in-year (p .spring) y h .0)
+  -- what the clock shows in minute m of a day of year y
+  on-day : (y day m hr minute : ℕ) (x : Bool) → yearOfDay day .index ≡ y → m < 1440
+      → within (springDay (p .spring) y * 1440 + (60 * hour + b)) (autumnDay (p .autumn) y * 1440 + (60 * (hour - 1) + b)) (day * 1440 + m) ≡ x
+      → m + cond x 60 0 ≡ hr * 60 + minute + b
+      → hr < 24
+      → minute < 60
+      → Shows (clock p offset hour (day * 1440 + m)) day hr minute
+  on-day y day m hr minute x e l w f h k =
+      let d : (day * 1440 + m) / 1440 ≡ day = omega arith in
+      shows (clock p offset hour (day * 1440 + m)) day hr minute h k
+      (local-at (day * 1440 + m) (day * 1440 + hr * 60 + minute) x (on-in-year (day * 1440 + m) y (rw d e) ∙ w) (omega arith))
 
-  in-autumn : (y m : ℕ) → y < yearCount → m < 1440 → yearOfDay ((autumnDay (p .autumn) y * 1440 + m) / 1440) .index ≡ y
-  in-autumn y m h l =
-      let e : (autumnDay (p .autumn) y * 1440 + m) / 1440 ≡ autumnDay (p .autumn) y = omega arith in
-      rw e (changes-in-year (p .autumn) y h .1)
-
-  -- the clock on the spring day before the change and at it, and on the autumn day before the change and from it on
   module _ (y : ℕ) (h : y < yearCount) where
-    abbrev s : ℕ
-    s = springDay (p .spring) y * 1440
+    abbrev spring : ℕ
+    spring = springDay (p .spring) y
 
-    abbrev a : ℕ
-    a = autumnDay (p .autumn) y * 1440
+    abbrev autumn : ℕ
+    autumn = autumnDay (p .autumn) y
 
-    before-spring : clock p offset hour (s + (60 * hour + b - 1)) ≡ pos (s + (hour - 1) * 60 + 59)
+    before-spring : Shows (clock p offset hour (spring * 1440 + (60 * hour + b - 1))) spring (hour - 1) 59
     unfolding within
     before-spring =
-        local-at (s + (60 * hour + b - 1)) (s + (hour - 1) * 60 + 59) false
-        (on-in-year (s + (60 * hour + b - 1)) y (in-spring y (60 * hour + b - 1) h (omega (arith, far .high, hours)))
-        ∙ rw (lt-leb (s + (60 * hour + b)) (s + (60 * hour + b - 1)) (omega (arith, hours))))
+        on-day y spring (60 * hour + b - 1) (hour - 1) 59 false (changes-in-year (p .spring) y h .0) (omega (arith, far .high, hours))
+        (rw (lt-leb (spring * 1440 + (60 * hour + b)) (spring * 1440 + (60 * hour + b - 1)) (omega (arith, hours))))
         (omega (arith, hours))
+        (omega (arith, hours))
+        (omega arith)
 
-    at-spring : clock p offset hour (s + (60 * hour + b)) ≡ pos (s + (hour + 1) * 60 + 0)
+    at-spring : Shows (clock p offset hour (spring * 1440 + (60 * hour + b))) spring (hour + 1) 0
     unfolding within
     at-spring =
-        local-at (s + (60 * hour + b)) (s + (hour + 1) * 60 + 0) true
-        (on-in-year (s + (60 * hour + b)) y (in-spring y (60 * hour + b) h (omega (arith, far .high, hours)))
-        ∙ rw (
-          le-leb (s + (60 * hour + b)) (s + (60 * hour + b)) (omega arith),
-          lt-ltb (s + (60 * hour + b)) (a + (60 * (hour - 1) + b)) (omega (arith, in-range y h, far .high, hours)),
+        on-day y spring (60 * hour + b) (hour + 1) 0 true (changes-in-year (p .spring) y h .0) (omega (arith, far .high, hours))
+        (rw (
+          le-leb (spring * 1440 + (60 * hour + b)) (spring * 1440 + (60 * hour + b)) (omega arith),
+          lt-ltb (spring * 1440 + (60 * hour + b)) (autumn * 1440 + (60 * (hour - 1) + b)) (omega (arith, in-range y h, far .high, hours)),
         ))
         (omega arith)
+        (omega (arith, hours))
+        (omega arith)
 
-    before-autumn : (k : ℕ) → k < 60 → clock p offset hour (a + (60 * (hour - 1) + b - 60 + k)) ≡ pos (a + (hour - 1) * 60 + k)
+    before-autumn : (k : ℕ) → k < 60 → Shows (clock p offset hour (autumn * 1440 + (60 * (hour - 1) + b - 60 + k))) autumn (hour - 1) k
     unfolding within
     before-autumn k l =
-        local-at (a + (60 * (hour - 1) + b - 60 + k)) (a + (hour - 1) * 60 + k) true
-        (on-in-year (a + (60 * (hour - 1) + b - 60 + k)) y (in-autumn y (60 * (hour - 1) + b - 60 + k) h (omega (arith, far .high, hours)))
-        ∙ rw (
-          le-leb (s + (60 * hour + b)) (a + (60 * (hour - 1) + b - 60 + k)) (omega (arith, in-range y h, far .high, hours)),
-          lt-ltb (a + (60 * (hour - 1) + b - 60 + k)) (a + (60 * (hour - 1) + b)) (omega (arith, far .low)),
+        let m = 60 * (hour - 1) + b - 60 + k in
+        on-day y autumn m (hour - 1) k true (changes-in-year (p .autumn) y h .1) (omega (arith, far .high, hours))
+        (rw (
+          le-leb (spring * 1440 + (60 * hour + b)) (autumn * 1440 + m) (omega (arith, in-range y h, far .high, hours)),
+          lt-ltb (autumn * 1440 + m) (autumn * 1440 + (60 * (hour - 1) + b)) (omega (arith, far .low)),
         ))
         (omega (arith, far .low))
+        (omega (arith, hours))
+        l
 
-    from-autumn : (k : ℕ) → k < 60 → clock p offset hour (a + (60 * (hour - 1) + b + k)) ≡ pos (a + (hour - 1) * 60 + k)
+    from-autumn : (k : ℕ) → k < 60 → Shows (clock p offset hour (autumn * 1440 + (60 * (hour - 1) + b + k))) autumn (hour - 1) k
     unfolding within
     from-autumn k l =
-        local-at (a + (60 * (hour - 1) + b + k)) (a + (hour - 1) * 60 + k) false
-        (on-in-year (a + (60 * (hour - 1) + b + k)) y (in-autumn y (60 * (hour - 1) + b + k) h (omega (arith, far .high, hours)))
-        ∙ rw (
-          le-leb (s + (60 * hour + b)) (a + (60 * (hour - 1) + b + k)) (omega (arith, in-range y h, far .high, hours)),
-          le-ltb (a + (60 * (hour - 1) + b + k)) (a + (60 * (hour - 1) + b)) (omega arith),
+        let m = 60 * (hour - 1) + b + k in
+        on-day y autumn m (hour - 1) k false (changes-in-year (p .autumn) y h .1) (omega (arith, far .high, hours))
+        (rw (
+          le-leb (spring * 1440 + (60 * hour + b)) (autumn * 1440 + m) (omega (arith, in-range y h, far .high, hours)),
+          le-ltb (autumn * 1440 + m) (autumn * 1440 + (60 * (hour - 1) + b)) (omega arith),
         ))
         (omega arith)
+        (omega (arith, hours))
+        l
 
-    pub spring :
+    pub forward :
         (1 ≤ springChange p offset hour y)
         × (springChange p offset hour y < minuteCount)
-        × Shows (clock p offset hour (springChange p offset hour y - 1)) (springDay (p .spring) y) (hour - 1) 59
-        × Shows (clock p offset hour (springChange p offset hour y)) (springDay (p .spring) y) (hour + 1) 0
-    spring =
+        × Shows (clock p offset hour (springChange p offset hour y - 1)) spring (hour - 1) 59
+        × Shows (clock p offset hour (springChange p offset hour y)) spring (hour + 1) 0
+    forward =
         let c = spring-at y in
-        let before : springChange p offset hour y - 1 ≡ s + (60 * hour + b - 1) = omega (arith, c, hours) in (
-          omega (arith, c, hours),
-          omega (arith, c, hours, far .high, in-range y h),
-          shows (clock p offset hour (springChange p offset hour y - 1)) (springDay (p .spring) y) (hour - 1) 59 (omega (arith, hours)) (omega arith)
-              (ap (clock p offset hour) before ∙ before-spring),
-          shows (clock p offset hour (springChange p offset hour y)) (springDay (p .spring) y) (hour + 1) 0 (omega (arith, hours)) (omega arith)
-              (ap (clock p offset hour) c ∙ at-spring),
-        )
+        let before : springChange p offset hour y - 1 ≡ spring * 1440 + (60 * hour + b - 1) = omega (arith, c, hours) in
+        (omega (arith, c, hours), omega (arith, c, hours, far .high, in-range y h), rw before before-spring, rw c at-spring)
 
-    pub autumn : (k : ℕ) → k < 60
+    pub back : (k : ℕ) → k < 60
         → (60 ≤ autumnChange p offset hour y)
         × (autumnChange p offset hour y + 60 ≤ minuteCount)
-        × Shows (clock p offset hour (autumnChange p offset hour y - 60 + k)) (autumnDay (p .autumn) y) (hour - 1) k
-        × Shows (clock p offset hour (autumnChange p offset hour y + k)) (autumnDay (p .autumn) y) (hour - 1) k
-    autumn k l =
+        × Shows (clock p offset hour (autumnChange p offset hour y - 60 + k)) autumn (hour - 1) k
+        × Shows (clock p offset hour (autumnChange p offset hour y + k)) autumn (hour - 1) k
+    back k l =
         let c = autumn-at y in
-        let before : autumnChange p offset hour y - 60 + k ≡ a + (60 * (hour - 1) + b - 60 + k) = omega (arith, c, far .low) in
-        let from : autumnChange p offset hour y + k ≡ a + (60 * (hour - 1) + b + k) = omega (arith, c) in (
-          omega (arith, c, far .low),
-          omega (arith, c, hours, far .high, in-range y h),
-          shows (clock p offset hour (autumnChange p offset hour y - 60 + k)) (autumnDay (p .autumn) y) (hour - 1) k (omega (arith, hours)) l
-              (ap (clock p offset hour) before ∙ before-autumn k l),
-          shows (clock p offset hour (autumnChange p offset hour y + k)) (autumnDay (p .autumn) y) (hour - 1) k (omega (arith, hours)) l
-              (ap (clock p offset hour) from ∙ from-autumn k l),
-        )
+        let before : autumnChange p offset hour y - 60 + k ≡ autumn * 1440 + (60 * (hour - 1) + b - 60 + k) = omega (arith, c, far .low) in
+        let from : autumnChange p offset hour y + k ≡ autumn * 1440 + (60 * (hour - 1) + b + k) = omega (arith, c) in
+        (omega (arith, c, far .low), omega (arith, c, hours, far .high, in-range y h), rw before (before-autumn k l), rw from (from-autumn k l))
 
   -- at a minute that is no change of its year daylight time holds as in the minute before: in one year, and over the year's end
   same-on : (t : ℕ) → t + 1 < minuteCount
@@ -291,10 +197,10 @@ module _ (p : Plan) (offset : ℤ) (hour : ℕ) (given : Changing p offset hour)
       ]
 
 pub spring-forward : SpringForward
-spring-forward p offset hour y given h = spring p offset hour given y h
+spring-forward p offset hour y given h = forward p offset hour given y h
 
 pub autumn-back : AutumnBack
-autumn-back p offset hour y k given h = autumn p offset hour given y h k
+autumn-back p offset hour y k given h = back p offset hour given y h k
 
 pub otherwise-by-one : OtherwiseByOne
 otherwise-by-one p offset hour t given h f g =

@@ -1,16 +1,16 @@
 -- What is proved of local dates (document 02, 1, "Local time on the tablets").
 -- Assumes nothing.
-use Prim.Native.Nat.{ℕ, suc, _+_, _-_, _*_, _/_, _%_, _≤_, _<_}
+use Prim.Native.Nat.{ℕ, _+_, _-_, _*_, _/_, _%_, _≤_, _<_}
 use mathlib.Core.Bool.{true, false}
 use mathlib.Core.Logic.{_↔_, _⊎_, _≢_}
 use mathlib.Core.Path.{_≡_}
 use lib.IntN.{ℤ, pos, _+ℤ_, _-ℤ_}
-use Rattle.calendar.specs.Calendar.{yearCount, minuteCount, yearOfDay, dateAt, dateOn, minuteOn}
+use Rattle.calendar.specs.Calendar.{yearCount, minuteCount, yearOfDay, dateOn, minuteOn}
 use Rattle.calendar.specs.Answer.{found, refused, dateValues}
 use Rattle.codewords.specs.CodeWords.{daylightNumber}
 use Rattle.plan.specs.Plan.{legalPlan, springDay, autumnDay, daylightAt}
 use Rattle.plan.specs.declared.Plan.{Plan}
-use Rattle.localtime.specs.Local.{legalOffset, legalHour, legalSetting, utcOf, added, localMinute, localDate, localOf}
+use Rattle.localtime.specs.Local.{legalOffset, legalHour, legalSetting, utcOf, added, localMinute, localOf}
 
 -- ---- every minute, state, offset and hour
 

@@ -1,7 +1,7 @@
 -- `calendar::month_of_day` meets its contract: day / 32 is the month or one short, and the start of the next month tells which.
 -- Assumes nothing.
 use Prim.Native.Nat.{_+_, _/_, _<_}
-use mathlib.Core.Path.{_≡_, sym, _∙_}
+use mathlib.Core.Path.{_≡_, sym}
 use mathlib.Core.Logic.{⊎-elim}
 use native.Mathlib.Omega.{arith}
 use borrow.Author.Needs.{needs}
