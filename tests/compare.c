@@ -580,7 +580,7 @@ static void boundary_local(void)
     try_local(0, 0, -240, 0xffffffffu);
 }
 
-/* The clock of a yard through a year: minute by minute it moves by one, but for one hour forward and one back. */
+/* A local clock through a year: minute by minute it moves by one, but for one hour forward and one back. */
 static void boundary_clock(int32_t offset, uint32_t hour, uint32_t year)
 {
     struct ref_plan p = {0, 10, 37, 0, 0, 0};

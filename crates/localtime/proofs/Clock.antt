@@ -5,9 +5,9 @@ use mathlib.Core.Path.{_≡_, refl, sym, ap, subst, _∙_}
 use mathlib.Core.Bool.{Bool, true, false, cond, and-false}
 use native.Mathlib.Decide.{decLt}
 use native.Mathlib.Omega.{arith}
-use lib.Dec.{leb}
+use lib.Dec.{leb, eqb}
 use lib.IntN.{ℤ, pos, natAbs, _+ℤ_}
-use borrow.Author.Tests.{lt-ltb, le-ltb, le-leb, lt-leb, eq-eqb}
+use borrow.Author.Tests.{lt-ltb, le-ltb, le-leb, lt-leb, eq-eqb, ne-eqb}
 use Rattle.calendar.specs.declared.Place.{Place}
 use Rattle.calendar.specs.Calendar.{yearCount, dayCount, minuteCount, before, yearLengths, yearOfDay, dateFrom, dateAt, dateOn}
 use Rattle.calendar.proofs.Walk.{before-mono, lies-mono}
@@ -19,8 +19,9 @@ use Rattle.plan.specs.declared.Plan.{Plan}
 use Rattle.plan.proofs.Follows.{spring-late, in-order, autumn-early}
 use Rattle.plan.proofs.Changes.{changes-in-year}
 use Rattle.codewords.specs.CodeWords.{daylightNumber}
+use Rattle.codewords.specs.declared.DaylightState.the-variants.{Standard, Daylight}
 use Rattle.localtime.specs.Local.{daylightHolds, added, localMinute}
-use Rattle.localtime.specs.Theorems.{clock, springChange, autumnChange, Changing, Shows, SpringForward, AutumnBack, OtherwiseByOne}
+use Rattle.localtime.specs.Theorems.{clock, springChange, autumnChange, Changing, Shows, SpringForward, AutumnBack, OtherwiseByOne, NoChanges}
 use Rattle.localtime.proofs.Laws.{Behind, legal-offset, legal-hour, utc-at}
 use Rattle.localtime.proofs.Holds.{holds-between, same-within}
 use Rattle.localtime.proofs.Answers.{regroup}
@@ -202,11 +203,23 @@ spring-forward p offset hour y given h = forward p offset hour given y h
 pub autumn-back : AutumnBack
 autumn-back p offset hour y k given h = back p offset hour given y h k
 
+-- the next minute, with as many minutes added
+next : (t : ℕ) (offset : ℤ) (n : ℕ) → pos (t + n) +ℤ offset +ℤ pos 1 ≡ pos (t + 1 + n) +ℤ offset
+next t offset n = regroup (t + n) 1 offset ∙ ap (λ (k : ℕ). pos k +ℤ offset) (omega arith)
+
 pub otherwise-by-one : OtherwiseByOne
 otherwise-by-one p offset hour t given h f g =
     let x = on p offset hour given t in
     clock-at p offset hour given (t + 1) x (same-on p offset hour given t h f g)
-    ∙ sym (ap (λ (z : ℤ). z +ℤ pos 1) (clock-at p offset hour given t x refl) ∙ regroup′ x)
+    ∙ sym (ap (λ (z : ℤ). z +ℤ pos 1) (clock-at p offset hour given t x refl) ∙ next t offset (cond x 60 0))
+
+-- without changes the state is the same in all minutes, and does not look at the minute
+pub no-changes : NoChanges
+unfolding localMinute added daylightHolds daylightAt
+no-changes p offset hour t n = rw (ne-eqb (p .kind) 0 n) (go (eqb (p .kind) 1))
   where
-    regroup′ : (x : Bool) → pos (t + cond x 60 0) +ℤ offset +ℤ pos 1 ≡ pos (t + 1 + cond x 60 0) +ℤ offset
-    regroup′ x = regroup (t + cond x 60 0) 1 offset ∙ ap (λ (n : ℕ). pos n +ℤ offset) (omega arith)
+    go : (one : Bool)
+        → localMinute (t + 1) (daylightNumber (cond one Standard Daylight)) offset hour
+        ≡ localMinute t (daylightNumber (cond one Standard Daylight)) offset hour +ℤ pos 1
+    go true = sym (next t offset 0)
+    go false = sym (next t offset 60)

@@ -95,3 +95,8 @@ OtherwiseByOne =
     → t + 1 ≢ springChange p offset hour (yearOfDay ((t + 1) / 1440) .index)
     → t + 1 ≢ autumnChange p offset hour (yearOfDay ((t + 1) / 1440) .index)
     → clock p offset hour (t + 1) ≡ clock p offset hour t +ℤ pos 1
+
+-- with a plan of kind 1 or 2, which has no changes, it moves by one minute at every minute
+abbrev pub NoChanges : Type 0
+NoChanges =
+    (p : Plan) (offset : ℤ) (hour t : ℕ) → p .kind ≢ 0 → clock p offset hour (t + 1) ≡ clock p offset hour t +ℤ pos 1
