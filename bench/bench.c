@@ -30,7 +30,8 @@ static double now(void)
     return (double)t.tv_sec * 1e9 + (double)t.tv_nsec;
 }
 
-/* Each of these does about FRAMES items by the library (0) or the plain codec (1), and gives how many. */
+/* Each of these does about FRAMES items by the library (0) or the plain codec (1), and gives how many. The call is chosen
+   before the loop, so that both go the same way through it. */
 
 typedef size_t work(int which, uint32_t n);
 
@@ -40,11 +41,11 @@ static int32_t leap_sign;
 static size_t write_frames(int which, uint32_t n)
 {
     uint32_t done, minute = 6412320 - 20000;
+    wwvb_write_reply (*call)(uint32_t, uint32_t, uint32_t, uint32_t, int32_t, uint32_t, uint32_t, uint32_t, uint8_t *,
+                             size_t) = which ? plain_write_recording : wwvb_write_recording;
 
     for (done = 0; done < FRAMES; done += n, minute += n) {
-        wwvb_write_reply r = which
-            ? plain_write_recording(0, 10, 37, leap_month, leap_sign, 0, minute, n, bits[1], sizeof bits[1])
-            : wwvb_write_recording(0, 10, 37, leap_month, leap_sign, 0, minute, n, bits[0], sizeof bits[0]);
+        wwvb_write_reply r = call(0, 10, 37, leap_month, leap_sign, 0, minute, n, bits[which], sizeof bits[which]);
         sink += (uint32_t)r.bits + r.refusal;
     }
     return done;
@@ -53,10 +54,11 @@ static size_t write_frames(int which, uint32_t n)
 static size_t read_frames(int which, uint32_t n)
 {
     uint32_t done;
+    wwvb_read_reply (*call)(const uint8_t *, size_t, uint8_t *, size_t) =
+        which ? plain_read_recording : wwvb_read_recording;
 
     for (done = 0; done < FRAMES; done += n) {
-        wwvb_read_reply r = which ? plain_read_recording(bits[0], n * 60, entries[1], sizeof entries[1])
-                                  : wwvb_read_recording(bits[0], n * 60, entries[0], sizeof entries[0]);
+        wwvb_read_reply r = call(bits[0], n * 60, entries[which], sizeof entries[which]);
         sink += (uint32_t)r.used + r.refusal;
     }
     return done;
@@ -89,10 +91,10 @@ static void prepare_dates(void)
 static size_t make_dates(int which, uint32_t n)
 {
     uint32_t i;
+    wwvb_date_reply (*call)(uint32_t) = which ? plain_minute_to_date : wwvb_minute_to_date;
 
     for (i = n; i < FRAMES; i++) {
-        uint32_t minute = dates[i].number;
-        wwvb_date_reply r = which ? plain_minute_to_date(minute) : wwvb_minute_to_date(minute);
+        wwvb_date_reply r = call(dates[i].number);
         sink += r.year + r.month + r.day + r.hour + r.minute + r.weekday;
     }
     return FRAMES - n;
@@ -101,12 +103,10 @@ static size_t make_dates(int which, uint32_t n)
 static size_t make_local_dates(int which, uint32_t n)
 {
     uint32_t i;
+    wwvb_date_reply (*call)(uint32_t, uint32_t, int32_t, uint32_t) = which ? plain_local_date : wwvb_local_date;
 
     for (i = n; i < FRAMES; i++) {
-        uint32_t minute = dates[i].number, state = dates[i].state, hour = dates[i].change_hour;
-        int32_t offset = dates[i].offset;
-        wwvb_date_reply r = which ? plain_local_date(minute, state, offset, hour)
-                                  : wwvb_local_date(minute, state, offset, hour);
+        wwvb_date_reply r = call(dates[i].number, dates[i].state, dates[i].offset, dates[i].change_hour);
         sink += r.year + r.month + r.day + r.hour + r.minute + r.weekday;
     }
     return FRAMES - n;
@@ -115,12 +115,11 @@ static size_t make_local_dates(int which, uint32_t n)
 static size_t make_minutes(int which, uint32_t n)
 {
     uint32_t i;
+    wwvb_minute_reply (*call)(uint32_t, uint32_t, uint32_t, uint32_t, uint32_t) =
+        which ? plain_date_to_minute : wwvb_date_to_minute;
 
     for (i = n; i < FRAMES; i++) {
-        uint32_t year = dates[i].year, month = dates[i].month, day = dates[i].day;
-        uint32_t hour = dates[i].hour, minute = dates[i].minute;
-        wwvb_minute_reply r = which ? plain_date_to_minute(year, month, day, hour, minute)
-                                    : wwvb_date_to_minute(year, month, day, hour, minute);
+        wwvb_minute_reply r = call(dates[i].year, dates[i].month, dates[i].day, dates[i].hour, dates[i].minute);
         sink += r.minute;
     }
     return FRAMES - n;

@@ -549,7 +549,8 @@ static void boundary_dates(void)
         }
 }
 
-/* Every minute of a year's first and last days, and around each limit of a day, by each state, offset and hour. */
+/* Around each limit in some days, the first and the last among them, by each state, offset and hour, also one too low and one
+   too high; every minute of the first day; far numbers. */
 static void boundary_local(void)
 {
     static const uint32_t days[] = {0, 1, 59, 60, 365, 366, 4453, 36524};
