@@ -4,8 +4,8 @@ use Prim.Native.Nat.{ℕ}
 use mathlib.Core.List.{List}
 use Rattle.codewords.specs.CodeWords.{daylightNumber, leapNumber}
 use Rattle.codewords.specs.declared.State.{State}
-use Rattle.frame.specs.Entry.{Entry}
-use Rattle.frame.specs.Reading.{Answer, refused, entry, OneOutcome}
+use Rattle.format.specs.Entry.{Entry}
+use Rattle.format.specs.Reading.{Answer, refused, entry, OneOutcome}
 use Rattle.frame.specs.declared.Fields.{Fields}
 use Rattle.frame.specs.declared.Refusal.{Refusal}
 use Rattle.frame.specs.declared.Refusal.the-variants.{EntrySpace, Short, NotBits, Sync, StateWord, NextWord, Minute, Echo, Length, Order}

@@ -4,8 +4,8 @@ ghost use Prim.Native.Nat.{_%_, _^_, _<_};
 ghost use lib.Dec.{eqb};
 ghost use lib.ListN.{getD};
 ghost use Rattle.bits.specs.Bits.{bits, number, pick};
-ghost use Rattle.frame.specs.Frame.{wordIn, stateIn};
-ghost use Rattle.frame.specs.Sending.{timePart, dayPart};
+ghost use Rattle.format.specs.Frame.{wordIn, stateIn};
+ghost use Rattle.format.specs.Sending.{timePart, dayPart};
 
 // The synchronization word, bits 0 to 12.
 pub const SYNC: u64 = 0b0011101101000;

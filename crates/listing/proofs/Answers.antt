@@ -6,7 +6,7 @@ use mathlib.Core.Path.{_≡_}
 use native.Mathlib.Omega.{arith}
 use borrow.Author.Tests.{ne-eqb}
 use Rattle.decimal.proofs.Cases.{pick-some, pick-none}
-use Rattle.recording.specs.Writing.{frames}
+use Rattle.sequence.specs.Writing.{frames}
 use Rattle.listing.specs.Line.{firstLine, isLine, requestIn, lineIn}
 use Rattle.listing.specs.Listing.{framesText, refusedText, refusalOf, answerText, listing}
 use Rattle.listing.specs.declared.line.Request.{Request}

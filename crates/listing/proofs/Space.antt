@@ -14,9 +14,9 @@ use Rattle.decimal.proofs.Laws.{width-small}
 use Rattle.plan.specs.Plan.{legalPlan, legalLeap}
 use Rattle.plan.specs.declared.Plan.{Plan}
 use Rattle.plan.proofs.Rows.{leap-legal}
-use Rattle.recording.specs.Writing.{frames, seconds}
-use Rattle.recording.specs.Demand.{any, isLeapMinute, plus, bitsSent}
-use Rattle.recording.proofs.Seconds.{seconds-sent}
+use Rattle.sequence.specs.Writing.{frames, seconds}
+use Rattle.sequence.specs.Demand.{any, isLeapMinute, plus, bitsSent}
+use Rattle.sequence.proofs.Seconds.{seconds-sent}
 use Rattle.listing.specs.Line.{firstLine, isLine, requestIn}
 use Rattle.listing.specs.Listing.{framesText, refusedText, refusalOf, answerText, listing}
 use Rattle.listing.specs.Answer.{ListOutcome, putInto}

@@ -7,7 +7,7 @@ use lib.ListN.{length}
 use Rattle.bits.specs.Bits.{pick}
 use Rattle.decimal.specs.Decimal.{decimal}
 use Rattle.plan.specs.declared.Plan.{Plan}
-use Rattle.recording.specs.Writing.{frames, seconds, writeRefusal}
+use Rattle.sequence.specs.Writing.{frames, seconds, writeRefusal}
 use Rattle.listing.specs.declared.line.Request.{Request}
 use Rattle.listing.specs.Line.{firstLine, isLine, requestIn}
 

@@ -7,12 +7,13 @@ use native.Mathlib.Omega.{arith}
 use lib.ListN.{length, take, drop, length-append}
 use lib.Seq.{take-at, drop-at}
 use Rattle.plan.specs.declared.Plan.{Plan}
-use Rattle.recording.specs.Writing.{recording, seconds, writeRefusal, WriteNumbers, writeResult, bufferWritten, writeRefusalNumber}
-use Rattle.recording.specs.Reading.{Outcome, readInto}
-use Rattle.recording.specs.Demand.{recorded}
+use Rattle.sequence.specs.Writing.{recording, seconds, writeRefusal, WriteNumbers, writeResult, bufferWritten}
+use Rattle.sequence.specs.Reading.{Outcome, readInto}
+use Rattle.sequence.specs.Demand.{recorded}
 use Rattle.recording.specs.declared.WriteRefusal.{WriteRefusal}
-use Rattle.recording.proofs.Sums.{length-recording}
-use Rattle.recording.proofs.Seconds.{seconds-sent}
+use Rattle.sequence.proofs.Sums.{length-recording}
+use Rattle.sequence.proofs.Seconds.{seconds-sent}
+use Rattle.recording.specs.Answer.{writeRefusalNumber}
 use Rattle.loopback.specs.Loopback.{placesFor, loopOutcome, loopBits}
 use Rattle.loopback.proofs.Frames.{length-places, all-places, length-recorded}
 use Rattle.loopback.proofs.Short.{read-sent}

@@ -10,7 +10,7 @@ use lib.ListN.{length, getD, set}
 use borrow.Author.Tests.{ltb-true, eqb-true, eqb-false, eq-eqb, ne-eqb, not-true}
 use Rattle.bits.specs.Bits.{all}
 use Rattle.bits.proofs.Tests.{upto, upto-at, is-true, head-true, tail-true}
-use Rattle.frame.specs.Inverting.{flip, invertAt, from, framePlaces, inverted}
+use Rattle.format.specs.Inverting.{flip, invertAt, from, framePlaces, inverted}
 use Rattle.loopback.specs.Loopback.{placeBit}
 
 -- i is not the number

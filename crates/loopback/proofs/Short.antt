@@ -13,20 +13,20 @@ use Rattle.bits.proofs.Tests.{head-true, tail-true}
 use Rattle.calendar.specs.Calendar.{minuteCount}
 use Rattle.plan.specs.Plan.{legalPlan}
 use Rattle.plan.specs.declared.Plan.{Plan}
-use Rattle.frame.specs.Frame.{Sent, sentBy, frame}
-use Rattle.frame.specs.Inverting.{inverted}
-use Rattle.frame.specs.Entry.{sentEntry}
-use Rattle.frame.proofs.Legal.{legal-sent, long}
-use Rattle.frame.proofs.RoundTrip.{length-inverted}
-use Rattle.recording.specs.Writing.{frames, seconds}
-use Rattle.recording.specs.Reading.{Found, stop, add, follows, readFrames, readRecording, outcome, readInto}
-use Rattle.recording.specs.Demand.{isPlace, invertEach, recorded, sentEntries, sentOutcome}
-use Rattle.recording.specs.declared.Due.{Due}
-use Rattle.recording.specs.declared.Due.the-variants.{Any, Minute}
-use Rattle.recording.proofs.Resume.{length-bytes}
-use Rattle.recording.proofs.RoundTrip.{length-sent, follows-self, first-round-trip}
-use Rattle.recording.proofs.Steps.{ended, no-space}
-use Rattle.recording.proofs.Seconds.{seconds-sent}
+use Rattle.format.specs.Frame.{Sent, sentBy, frame}
+use Rattle.format.specs.Inverting.{inverted}
+use Rattle.format.specs.Entry.{sentEntry}
+use Rattle.format.proofs.Legal.{legal-sent, long}
+use Rattle.format.proofs.RoundTrip.{length-inverted}
+use Rattle.sequence.specs.Writing.{frames, seconds}
+use Rattle.sequence.specs.Reading.{Found, stop, add, follows, readFrames, readRecording, outcome, readInto}
+use Rattle.sequence.specs.Demand.{isPlace, invertEach, recorded, sentEntries, sentOutcome}
+use Rattle.sequence.specs.declared.Due.{Due}
+use Rattle.sequence.specs.declared.Due.the-variants.{Any, Minute}
+use Rattle.sequence.proofs.Resume.{length-bytes}
+use Rattle.sequence.proofs.RoundTrip.{length-sent, follows-self, first-round-trip}
+use Rattle.sequence.proofs.Steps.{ended, no-space}
+use Rattle.sequence.proofs.Seconds.{seconds-sent}
 use Rattle.loopback.specs.Loopback.{sentInto}
 
 -- what reading a recording as sent finds with so many entry slots

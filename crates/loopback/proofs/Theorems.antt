@@ -10,7 +10,7 @@ use lib.Seq.{take-all, drop-cons}
 use borrow.Author.Tests.{le-leb}
 use Rattle.bits.specs.Bits.{all}
 use Rattle.bits.proofs.Tests.{all-at}
-use Rattle.recording.specs.Demand.{isPlace, sentOutcome}
+use Rattle.sequence.specs.Demand.{isPlace, sentOutcome}
 use Rattle.loopback.specs.Loopback.{placeAt, placesFor, sentInto}
 use Rattle.loopback.specs.Theorems.{EnoughSpace, PlacesAsNamed}
 

@@ -6,10 +6,11 @@ use lib.Dec.{leb, ltb, eqb}
 use lib.ListN.{length, take, drop, getD}
 use Rattle.bits.specs.Bits.{pick}
 use Rattle.plan.specs.declared.Plan.{Plan}
-use Rattle.frame.specs.Entry.{entrySize}
-use Rattle.recording.specs.Writing.{writeRefusal, writeRefusalNumber}
-use Rattle.recording.specs.Reading.{Outcome, summaryOutcome}
-use Rattle.recording.specs.Demand.{isPlace, bitsSent, recorded, sentOutcome}
+use Rattle.format.specs.Entry.{entrySize}
+use Rattle.sequence.specs.Writing.{writeRefusal}
+use Rattle.sequence.specs.Reading.{Outcome}
+use Rattle.sequence.specs.Demand.{isPlace, bitsSent, recorded, sentOutcome}
+use Rattle.recording.specs.Answer.{writeRefusalNumber, summaryOutcome}
 use Rattle.loopback.specs.declared.Answer.{Answer}
 use Rattle.loopback.specs.declared.Answer.the-variants.{NotWritten, Read}
 

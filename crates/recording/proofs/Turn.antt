@@ -7,13 +7,13 @@ use mathlib.Core.Path.{_≡_, refl, sym, ap, _∙_}
 use native.Mathlib.Omega.{arith}
 use lib.ListN.{length, take, drop, length-append, length-drop}
 use lib.Seq.{length-take-le, drop-drop}
-use Rattle.frame.specs.Entry.{Entry, entryBytes}
-use Rattle.frame.specs.Reading.{entry, readFrame}
-use Rattle.recording.specs.Reading.{after, follows, readFrames, Outcome}
-use Rattle.recording.specs.declared.Due.{Due}
-use Rattle.recording.proofs.Resume.{resume, resume-add}
-use Rattle.recording.proofs.Steps.{frame-read}
-use Rattle.recording.proofs.Tails.{tail, tail-back}
+use Rattle.format.specs.Entry.{Entry, entryBytes}
+use Rattle.format.specs.Reading.{entry, readFrame}
+use Rattle.sequence.specs.Reading.{after, follows, readFrames, Outcome}
+use Rattle.sequence.specs.declared.Due.{Due}
+use Rattle.sequence.proofs.Resume.{resume, resume-add}
+use Rattle.sequence.proofs.Steps.{frame-read}
+use Rattle.sequence.proofs.Tails.{tail, tail-back}
 
 length-entry : (e : Entry) → length (entryBytes e) ≡ 12
 unfolding entryBytes

@@ -6,13 +6,15 @@ ghost use Prim.Native.Nat.{_+_, _*_, _≤_, _<_};
 ghost use lib.ListN.{length, drop};
 ghost use Rattle.calendar.specs.Calendar.{minuteCount};
 ghost use Rattle.plan.specs.Plan.{legalPlan};
-ghost use Rattle.recording.specs.Writing.{recording, seconds, writeResult, bufferWritten, writeRefusalNumber, writeNumbers};
-ghost use Rattle.recording.specs.Reading.{follows, readInto, summaryOutcome};
+ghost use Rattle.sequence.specs.Writing.{recording, seconds, writeResult, bufferWritten};
+ghost use Rattle.sequence.specs.Reading.{follows, readInto};
+ghost use Rattle.recording.specs.Answer.{writeRefusalNumber, writeNumbers, summaryOutcome};
 use calendar::Date;
 use frame::End;
 use frame::FrameAnswer;
 use frame::Refusal;
 use plan::Plan;
+use sequence::Due;
 
 // The question that writing got a no to, numbers 1 to 4.
 pub enum WriteRefusal {
@@ -26,12 +28,6 @@ pub enum WriteRefusal {
 pub enum WriteAnswer {
     Written(usize),
     Refused(WriteRefusal),
-}
-
-// The minute due next: any before the first frame.
-pub enum Due {
-    Any,
-    Minute(u32),
 }
 
 // The entries written, the bits that they took, and the end.

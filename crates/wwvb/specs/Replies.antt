@@ -9,9 +9,9 @@ use Rattle.bits.specs.Bits.{pick}
 use Rattle.calendar.specs.Answer.{Numbers}
 use Rattle.calendar.specs.declared.Date.{Date}
 use Rattle.plan.specs.declared.Plan.{Plan}
-use Rattle.frame.specs.Reading.{OneOutcome}
-use Rattle.recording.specs.Writing.{WriteNumbers}
-use Rattle.recording.specs.Reading.{Outcome}
+use Rattle.format.specs.Reading.{OneOutcome}
+use Rattle.sequence.specs.Writing.{WriteNumbers}
+use Rattle.sequence.specs.Reading.{Outcome}
 use Rattle.wwvb.specs.declared.DateReply.{DateReply}
 use Rattle.wwvb.specs.declared.MinuteReply.{MinuteReply}
 use Rattle.wwvb.specs.declared.WriteReply.{WriteReply}

@@ -1,6 +1,6 @@
 -- `frame::put_entry` meets its contract.
 -- Assumes nothing.
-use Rattle.frame.specs.Entry.{entryBytes}
+use Rattle.format.specs.Entry.{entryBytes}
 use borrow.Author.Needs.{needs}
 use Rattle.frame.proofs.put_entry.Statement.{statement}
 use Rattle.frame.proofs.put_entry.Tie as tie

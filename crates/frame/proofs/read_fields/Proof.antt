@@ -1,6 +1,6 @@
 -- `frame::read_fields` meets its contract.
 -- Assumes nothing.
-use Prim.Native.Nat.{ℕ, _-_, _<_}
+use Prim.Native.Nat.{ℕ, _-_, _/_, _%_, _^_, _<_}
 use mathlib.Core.Path.{_≡_, sym, ap, _∙_}
 use mathlib.Core.Bool.{Bool, true, _&&_, _||_}
 use native.Mathlib.Nat.{le-refl}
@@ -12,15 +12,22 @@ use lib.ListN.{length, take, drop}
 use Rattle.bits.specs.Bits.{bits, number, isZero, all}
 use Rattle.codewords.specs.CodeWords.{rowOf, rowAnswer}
 use Rattle.codewords.proofs.Rows.{assigned-is}
+use Rattle.codewords.specs.declared.State.{State}
 use Rattle.timeword.specs.TimeWord.{reading}
 use Rattle.timeword.specs.declared.Corrected.{Corrected}
-use Rattle.frame.specs.Frame.{wordIn}
-use Rattle.frame.specs.Entry.{Entry}
-use Rattle.frame.specs.Reading.{entry, enough, entryOf}
-use Rattle.frame.proofs.Legal.{seconds-long}
-use Rattle.frame.proofs.Questions.{entryAt, entry-is, same-entry, either, no-10, no-11, no-12, no-13, yes-13}
+use Rattle.format.specs.Frame.{wordIn}
+use Rattle.format.specs.Entry.{Entry}
+use Rattle.format.specs.Reading.{entry, enough, entryOf}
+use Rattle.frame.specs.Answer.{entryFrom}
+use Rattle.format.proofs.Legal.{seconds-long}
+use Rattle.format.proofs.Questions.{entryAt, entry-is, either, no-10, no-11, no-12, no-13, yes-13}
 use Rattle.frame.proofs.read_fields.Statement.{statement}
 use Rattle.frame.proofs.read_fields.Tie as tie
+
+-- the entry of the fields that the code finds
+same-entry : (x : ℕ) (t : Corrected) (s : State) (n r c : ℕ) → n ≡ entryAt x t s .seconds → r ≡ entryAt x t s .row → c ≡ entryAt x t s .echo
+    → entryFrom s (record { minute = t .minute; length = n; row = r; notice = x / 2 ^ 9 % 2; place = t .place; echo = c }) ≡ entryAt x t s
+same-entry x t s n r c p q h = rw (p, q, h)
 
 module _ (a : tie.After-read-row) where
   abbrev f : List ℕ

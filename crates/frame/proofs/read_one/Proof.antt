@@ -3,7 +3,7 @@
 use mathlib.Core.Path.{sym, ap, _∙_}
 use borrow.Author.Needs.{needs}
 use Rattle.frame.specs.Answer.{refusalNumber, entryFrom, frameNumbers}
-use Rattle.frame.proofs.One.{one-no-space, one-refused, one-read}
+use Rattle.format.proofs.One.{one-no-space, one-refused, one-read}
 use Rattle.frame.proofs.read_one.Statement.{statement}
 use Rattle.frame.proofs.read_one.Tie as tie
 

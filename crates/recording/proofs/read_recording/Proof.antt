@@ -9,15 +9,15 @@ use mathlib.Core.List.{List, [], _++_}
 use native.Mathlib.Nat.{sub-zero}
 use lib.ListN.{length, take, drop, length-drop, drop-of-length-le}
 use borrow.Author.Tests.{not-true, not-false}
-use Rattle.frame.specs.Entry.{Entry, entryBytes}
-use Rattle.frame.specs.Reading.{entry, readFrame}
+use Rattle.format.specs.Entry.{Entry, entryBytes}
+use Rattle.format.specs.Reading.{entry, readFrame}
 use Rattle.frame.specs.Answer.{refusalNumber, entryFrom, frameNumbers}
-use Rattle.frame.proofs.Accepted.{Accepted, accepted}
-use Rattle.recording.specs.Reading.{stop, follows, readFrames, readRecording, readInto, Outcome}
-use Rattle.recording.specs.declared.Due.the-variants.{Minute}
-use Rattle.recording.proofs.Resume.{resume, resume-none, resume-stop}
-use Rattle.recording.proofs.Steps.{ended, no-space, frame-refused, out-of-order}
-use Rattle.recording.proofs.Tails.{tail}
+use Rattle.format.proofs.Accepted.{Accepted, accepted}
+use Rattle.sequence.specs.Reading.{stop, follows, readFrames, readRecording, readInto, Outcome}
+use Rattle.sequence.specs.declared.Due.the-variants.{Minute}
+use Rattle.sequence.proofs.Resume.{resume, resume-none, resume-stop}
+use Rattle.sequence.proofs.Steps.{ended, no-space, frame-refused, out-of-order}
+use Rattle.sequence.proofs.Tails.{tail}
 use Rattle.recording.proofs.Turn.{turn, put-length}
 use Rattle.recording.proofs.read_recording.Statement.{statement}
 use Rattle.recording.proofs.read_recording.Tie as tie

@@ -1,7 +1,7 @@
 -- `frame::layout::day_part` meets its contract.
 -- Assumes nothing.
 use mathlib.Core.Path.{sym}
-use Rattle.frame.proofs.Sending.{day-part-number}
+use Rattle.format.proofs.Sending.{day-part-number}
 use borrow.Author.Needs.{needs}
 use Rattle.frame.proofs.layout.day_part.Statement.{statement}
 use Rattle.frame.proofs.layout.day_part.Tie as tie

@@ -1,7 +1,7 @@
 -- `frame::layout::time_part` meets its contract.
 -- Assumes nothing.
 use native.Mathlib.Omega.{arith}
-use Rattle.frame.proofs.Sending.{time-part-number}
+use Rattle.format.proofs.Sending.{time-part-number}
 use borrow.Author.Needs.{needs}
 use Rattle.frame.proofs.layout.time_part.Statement.{statement}
 use Rattle.frame.proofs.layout.time_part.Tie as tie

@@ -2,7 +2,7 @@
 -- Assumes nothing.
 use mathlib.Core.Path.{ap, _∙_}
 use Rattle.decimal.specs.Decimal.{numberIn}
-use Rattle.recording.proofs.Tails.{tail}
+use Rattle.sequence.proofs.Tails.{tail}
 use Rattle.listing.specs.Line.{lastPart}
 use borrow.Author.Needs.{needs}
 use Rattle.listing.proofs.line.last_number.Statement.{statement}

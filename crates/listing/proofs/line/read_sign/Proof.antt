@@ -8,7 +8,7 @@ use native.Mathlib.Omega.{arith}
 use lib.ListN.{length, drop}
 use Rattle.decimal.specs.Decimal.{isWhole, isNumber, numberIn}
 use Rattle.decimal.specs.declared.Number.the-variants.{Value as Number}
-use Rattle.recording.proofs.Tails.{tail}
+use Rattle.sequence.proofs.Tails.{tail}
 use Rattle.listing.specs.Line.{hasMinus, unsigned, signIn}
 use Rattle.listing.specs.declared.line.Sign.the-variants.{NotANumber}
 use Rattle.listing.proofs.Signs.{pos-fits, pos-back, neg-fits, neg-back}

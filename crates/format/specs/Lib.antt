@@ -1,0 +1,6 @@
+pub mod Frame
+pub mod Entry
+pub mod Inverting
+pub mod Reading
+pub mod Refusals
+pub mod Sending

@@ -1,0 +1,13 @@
+pub mod Sums
+pub mod Resume
+pub mod Tails
+pub mod Refusals
+pub mod Steps
+pub mod Seconds
+pub mod RoundTrip
+pub mod ReadBack
+pub mod Bench
+pub mod Demand
+pub mod Unread
+pub mod ReadRefusals
+pub mod Kept
