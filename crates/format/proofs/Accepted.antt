@@ -3,7 +3,7 @@
 use Prim.Native.Nat.{ℕ, _≤_, _<_}
 use mathlib.Core.Bool.{Bool, true, false}
 use mathlib.Core.List.{List}
-use mathlib.Core.Logic.{_⊎_, inl, inr}
+use mathlib.Core.Logic.{_⊎_, inl, inr, _≢_}
 use mathlib.Core.Path.{_≡_, sym, subst, _∙_}
 use native.Mathlib.Omega.{arith}
 use lib.Dec.{leb, eqb}
@@ -27,9 +27,9 @@ pub record Accepted (f : List ℕ) (e : Entry) : Type 0 where
 pub entry-only : (alone : Bool) (f : List ℕ) (e : Entry) → readFrame alone f ≡ entry e → e ≡ entryOf f
 entry-only alone f e h = go (frame-answers alone f)
   where
-    go : (readFrame alone f ≡ entry (entryOf f)) ⊎ ((n : ℕ) × (6 ≤ n) × (n ≤ 13) × (readFrame alone f ≡ refused n)) → e ≡ entryOf f
+    go : (readFrame alone f ≡ entry (entryOf f)) ⊎ ((n : ℕ) × (6 ≤ n) × (n ≤ 13) × (n ≢ 12) × (readFrame alone f ≡ refused n)) → e ≡ entryOf f
     go (inl q) = cc
-    go (inr q) = absurd (not-refused (q .0) e (sym (q .3) ∙ h))
+    go (inr q) = absurd (not-refused (q .0) e (sym (q .4) ∙ h))
 
 pub seconds-59 : (f : List ℕ) → 59 ≤ entryOf f .seconds
 unfolding entryOf

@@ -3,7 +3,7 @@
 use Prim.Native.Nat.{ℕ, _≤_, _<_}
 use mathlib.Core.Bool.{Bool, true, false, _&&_}
 use mathlib.Core.List.{List, [], _∷_, _++_}
-use mathlib.Core.Logic.{_⊎_, inl, inr, _↔_}
+use mathlib.Core.Logic.{_⊎_, inl, inr, _↔_, _≢_}
 use mathlib.Core.Path.{_≡_, refl, sym, ap, _∙_}
 use native.Mathlib.Decide.{decLt}
 use native.Mathlib.Omega.{arith}
@@ -50,6 +50,10 @@ up-cons b c q qs h =
 
 never : _≡_ {A = Bool} true false → ⊥
 never h = let z : _≡_ {A = ℕ} 0 1 = cc in omega arith
+
+-- a question that is answered yes is not the first that is not
+pub not-first : (qs : List Question) (n m : ℕ) → FirstNo qs n → answer qs m ≡ true → n ≢ m
+not-first qs n m p h e = never (sym h ∙ rw e at (p .1))
 
 -- one list, one verdict
 pub not-both : (qs : List Question) (n : ℕ) → AllYes qs → FirstNo qs n → ⊥
@@ -167,6 +171,10 @@ module _ (b c : ℕ) (qs : List Question) (up : ascending b c qs ≡ true) where
   pub number-when : (n : ℕ) → 0 < n → refusalOf qs ≡ n ↔ FirstNo qs n
   unfolding refusalOf
   number-when n l = refused-when (λ n. n) 0 b c qs up (λ n m h. h) n (λ h. omega arith)
+
+  -- a number that is not asked for, or asked for and answered yes, is not given
+  pub number-not : (n : ℕ) → 0 < n → answer qs n ≡ true → refusalOf qs ≢ n
+  number-not n l h e = never (sym h ∙ number-when n l .0 e .1)
 
   pub number-range : (refusalOf qs ≡ 0) ⊎ ((b < refusalOf qs) × (refusalOf qs ≤ c))
   unfolding refusalOf

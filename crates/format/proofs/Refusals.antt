@@ -3,7 +3,7 @@
 use Prim.Native.Nat.{ℕ, _%_, _≤_, _<_}
 use mathlib.Core.Bool.{Bool, true, false}
 use mathlib.Core.List.{List, _++_}
-use mathlib.Core.Logic.{_⊎_, inl, inr}
+use mathlib.Core.Logic.{_⊎_, inl, inr, _≢_}
 use mathlib.Core.Path.{_≡_, refl, _∙_}
 use native.Mathlib.Omega.{arith}
 use lib.Dec.{leb, eqb, leb·suc-suc}
@@ -13,8 +13,8 @@ use Rattle.codewords.specs.CodeWords.{rowOf}
 use Rattle.format.specs.Frame.{nextIn}
 use Rattle.format.specs.Entry.{Entry, entryBytes}
 use Rattle.format.specs.Reading.{Answer, refused, entry, ask, enough, entryOf, askFields, readFrame, OneOutcome, oneOutcome, readOne}
-use Rattle.format.specs.Refusals.{stateRead, chosen, frameQuestions, oneQuestions, FrameAccepted, FrameRefused, FrameAnswers, OneAccepted, OneRefused, OneAnswers, OneBuffer}
-use Rattle.format.proofs.Chain.{chain, chain-map, ascending, Verdict, verdict, all-yes, first-no, accepted-when, refused-when, refusalOf, zero-when, number-when, number-range}
+use Rattle.format.specs.Refusals.{answer, stateRead, chosen, frameQuestions, oneQuestions, FrameAccepted, FrameRefused, FrameAnswers, OneAccepted, OneRefused, OneAnswers, OneBuffer}
+use Rattle.format.proofs.Chain.{chain, chain-map, ascending, Verdict, verdict, all-yes, first-no, accepted-when, refused-when, refusalOf, not-first, zero-when, number-when, number-not, number-range}
 
 ask-is : (n : ℕ) (t : Bool) (a : Answer) → ask n t a ≡ pick t a (refused n)
 unfolding ask
@@ -26,20 +26,20 @@ unfolding enough
 enough-is true n l = refl
 enough-is false n l = refl
 
--- the echo byte as a test
-echo-is : (t : Bool) → eqb (pick t 1 0) 1 ≡ t
-echo-is true = refl
-echo-is false = refl
-
 -- reading a frame is putting its questions in order
 pub by-questions : (alone : Bool) (f : List ℕ) → readFrame alone f ≡ chain refused (frameQuestions alone f) (entry (entryOf f))
 unfolding readFrame askFields entryOf frameQuestions chain
 by-questions alone f =
-    simp (ask-is, enough-is, echo-is, leb·suc-suc (rowOf (stateRead f % 4) (number (nextIn f))) 51, leb·suc-suc (chosen f .minute) 52595999)
+    simp (ask-is, enough-is, leb·suc-suc (rowOf (stateRead f % 4) (number (nextIn f))) 51, leb·suc-suc (chosen f .minute) 52595999)
 
 frame-up : (alone : Bool) (f : List ℕ) → ascending 5 13 (frameQuestions alone f) ≡ true
 unfolding frameQuestions ascending
 frame-up alone f = refl
+
+-- no question has the number 12
+frame-not-12 : (alone : Bool) (f : List ℕ) → answer (frameQuestions alone f) 12 ≡ true
+unfolding frameQuestions answer
+frame-not-12 alone f = refl
 
 refused-injective : (n m : ℕ) → refused n ≡ refused m → n ≡ m
 refused-injective n m h = cc
@@ -61,9 +61,9 @@ pub frame-answers : FrameAnswers
 frame-answers alone f = go (verdict refused (entry (entryOf f)) 5 13 (frameQuestions alone f) (frame-up alone f))
   where
     go : Verdict refused (entry (entryOf f)) 5 13 (frameQuestions alone f)
-        → (readFrame alone f ≡ entry (entryOf f)) ⊎ ((n : ℕ) × (6 ≤ n) × (n ≤ 13) × (readFrame alone f ≡ refused n))
+        → (readFrame alone f ≡ entry (entryOf f)) ⊎ ((n : ℕ) × (6 ≤ n) × (n ≤ 13) × (n ≢ 12) × (readFrame alone f ≡ refused n))
     go (all-yes p e) = inl (by-questions alone f ∙ e)
-    go (first-no n p l u e) = inr (n, l, u, by-questions alone f ∙ e)
+    go (first-no n p l u e) = inr (n, l, u, not-first (frameQuestions alone f) n 12 p (frame-not-12 alone f), by-questions alone f ∙ e)
 
 -- ---- reading one frame into an entry buffer
 
@@ -86,6 +86,14 @@ module _ (buffer f : List ℕ) where
   unfolding oneQuestions frameQuestions ascending
   one-up = refl
 
+  one-not-12 : answer (oneQuestions buffer f) 12 ≡ true
+  unfolding oneQuestions frameQuestions answer
+  one-not-12 = refl
+
+but-12 : (n : ℕ) → n ≢ 12 → (n ≡ 0) ⊎ ((4 < n) × (n ≤ 13)) → (n ≡ 0) ⊎ ((5 ≤ n) × (n ≤ 13) × (n ≢ 12))
+but-12 n h (inl z) = inl z
+but-12 n h (inr r) = inr (r .0, r .1, h)
+
 pub one-accepted : OneAccepted
 one-accepted buffer f = rw (refusal-is buffer f) (zero-when 4 13 (oneQuestions buffer f) (one-up buffer f))
 
@@ -93,7 +101,9 @@ pub one-refused : OneRefused
 one-refused buffer f n l = rw (refusal-is buffer f) (number-when 4 13 (oneQuestions buffer f) (one-up buffer f) n l)
 
 pub one-answers : OneAnswers
-one-answers buffer f = rw (refusal-is buffer f) (number-range 4 13 (oneQuestions buffer f) (one-up buffer f))
+one-answers buffer f =
+    rw (refusal-is buffer f)
+    (but-12 _ (number-not 4 13 (oneQuestions buffer f) (one-up buffer f) 12 (omega arith) (one-not-12 buffer f)) (number-range 4 13 (oneQuestions buffer f) (one-up buffer f)))
 
 pub one-buffer : OneBuffer
 one-buffer buffer f = go (verdict (refusedWith buffer f) (accepted buffer f) 4 13 (oneQuestions buffer f) (one-up buffer f))

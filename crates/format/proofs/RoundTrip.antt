@@ -1,27 +1,28 @@
--- Reading a frame as sent, with one place inverted or none and anything behind it.
+-- Reading a frame as received: one place inverted or none, bits 19, 29 and 39 at will, and anything behind it.
 -- Assumes nothing.
 use Prim.Native.Nat.{ℕ, zero, suc, _+_, _-_, _*_, _/_, _%_, _≤_, _<_}
-use mathlib.Core.Bool.{Bool, true, false, or-true}
-use mathlib.Core.List.{List, [], _++_, append-nil}
+use mathlib.Core.Bool.{Bool, true, false}
+use mathlib.Core.List.{List, [], _∷_, _++_, append-nil}
 use mathlib.Core.Path.{_≡_, refl, _∙_}
 use native.Mathlib.Nat.{mod-eq-of-lt}
 use native.Mathlib.Omega.{arith}
-use lib.Dec.{eqb}
-use lib.ListN.{length, take, drop, getD, replicate, length-append, length-replicate}
-use borrow.Author.Tests.{le-leb, eq-eqb}
+use lib.Dec.{leb, eqb}
+use lib.ListN.{length, take, drop, getD, set, replicate, length-append, length-replicate, length-set}
+use borrow.Author.Tests.{le-leb, leb-true, eq-eqb}
 use Rattle.bits.specs.Bits.{bit, bits, number, isBit, isZero, all}
 use Rattle.bits.proofs.Bits.{number-bits}
-use Rattle.bits.proofs.Tests.{all-binary, and-true}
+use Rattle.bits.proofs.Tests.{all-binary, and-true, head-true, tail-true}
 use Rattle.timeword.specs.TimeWord.{codeWord, parities, reading}
 use Rattle.codewords.specs.CodeWords.{stateWords, stateOf, nextWords}
 use Rattle.codewords.proofs.Tables.{state-back, state-word-lt, row-back, row-small, next-word-lt}
 use Rattle.format.specs.Frame.{Sent, sync, body, bodyOf, frame, wordIn, stateIn, nextIn}
-use Rattle.format.specs.Inverting.{flip, invertAt, from, timeNumbers, timeBits, framePlaces, inverted}
+use Rattle.format.specs.Inverting.{flip, invertAt, from, timeNumbers, timeBits, framePlaces, inverted, withUnread}
 use Rattle.format.specs.Reading.{entry, enough, entryOf, readFrame}
 use Rattle.format.specs.Entry.{sentEntry}
+use Rattle.format.specs.Received.{Reception, isReception, received, receivedEntry, onlyPlace}
 use Rattle.format.proofs.Legal.{Legal, long}
 use Rattle.format.proofs.Sending.{bodyOf-binary}
-use Rattle.format.proofs.Inverting.{read-inverted, bits-invert}
+use Rattle.format.proofs.Inverting.{read-inverted, bits-invert, length-invert}
 use Rattle.format.proofs.Questions.{yes-9, yes-13}
 
 -- the time-word bits of a frame as sent, by their numbers
@@ -34,107 +35,169 @@ unfolding all isZero
 zeros-pass zero rest = refl
 zeros-pass (suc n) rest = zeros-pass n rest
 
-module _ (s : Sent) (i : ℕ) (rest : List ℕ) where
-  pub received : List ℕ
-  unfolding inverted frame bodyOf body sync framePlaces invertAt flip from codeWord parities bits
-  received = inverted i (frame s) ++ rest
+-- a bit that is put in keeps bits
+bits-set : (l : List ℕ) (k b : ℕ) → all isBit l ≡ true → isBit b ≡ true → all isBit (set l k b) ≡ true
+unfolding all
+bits-set [] k b h g = h
+bits-set (x ∷ l) zero b h g = and-true g (tail-true (isBit x) (all isBit l) h)
+bits-set (x ∷ l) (suc k) b h g = and-true (head-true (isBit x) (all isBit l) h) (bits-set l k b (tail-true (isBit x) (all isBit l) h) g)
 
-  pub received-is : inverted i (frame s) ++ rest ≡ received
-  unfolding received
-  received-is = refl
+-- a reception by its parts
+pub record Bits (r : Reception) : Type 0 where
+  pub place-ok : r .place ≤ 31
+  pub bit19-ok : isBit (r .bit19) ≡ true
+  pub bit29-ok : isBit (r .bit29) ≡ true
+  pub bit39-ok : isBit (r .bit39) ≡ true
 
-  pub word-received : wordIn received ≡ invertAt i (from 1 31) (codeWord (s .minute))
-  unfolding received wordIn
-  word-received = refl
+pub reception-bits : (r : Reception) → isReception r ≡ true → Bits r
+unfolding isReception
+reception-bits r h =
+    let a = tail-true (leb (r .place) 31) _ h in
+    let b = tail-true (isBit (r .bit19)) _ a in
+    record {
+      place-ok = leb-true (r .place) 31 (head-true (leb (r .place) 31) _ h);
+      bit19-ok = head-true (isBit (r .bit19)) _ a;
+      bit29-ok = head-true (isBit (r .bit29)) (isBit (r .bit39)) b;
+      bit39-ok = tail-true (isBit (r .bit29)) (isBit (r .bit39)) b;
+    }
 
-  state-received : stateIn received ≡ bits 5 (getD stateWords (4 * s .leap + s .daylight) 0)
-  unfolding received stateIn
-  state-received = refl
+module _ (s : Sent) (r : Reception) (rest : List ℕ) where
+  pub heard : List ℕ
+  unfolding received withUnread inverted frame bodyOf body sync framePlaces invertAt flip from codeWord parities bits
+  heard = received r (frame s) ++ rest
 
-  next-received : nextIn received ≡ bits 6 (getD nextWords (s .row) 0)
-  unfolding received nextIn
-  next-received = refl
+  pub heard-is : received r (frame s) ++ rest ≡ heard
+  unfolding heard
+  heard-is = refl
 
-  echo-received : getD received 19 0 ≡ s .minute % 2
-  unfolding received
-  echo-received = refl
+  pub word-heard : wordIn heard ≡ invertAt (r .place) (from 1 31) (codeWord (s .minute))
+  unfolding heard wordIn
+  word-heard = refl
 
-  notice-received : getD received 49 0 ≡ s .notice
-  unfolding received
-  notice-received = refl
+  state-heard : stateIn heard ≡ bits 5 (getD stateWords (4 * s .leap + s .daylight) 0)
+  unfolding heard stateIn
+  state-heard = refl
 
-  sync-received : number (take 13 received) ≡ 0b0011101101000
-  unfolding received number bit
-  sync-received = refl
+  next-heard : nextIn heard ≡ bits 6 (getD nextWords (s .row) 0)
+  unfolding heard nextIn
+  next-heard = refl
 
-  behind-received : drop 59 received ≡ replicate (s .seconds - 59) 0 ++ rest
-  unfolding received
-  behind-received = refl
+  echo-heard : getD heard 19 0 ≡ r .bit19
+  unfolding heard
+  echo-heard = refl
 
-  head-received : take 59 received ≡ invertAt i framePlaces (bodyOf s)
-  unfolding received
-  head-received = refl
+  notice-heard : getD heard 49 0 ≡ s .notice
+  unfolding heard
+  notice-heard = refl
 
-  bits-received : s .notice ≤ 1 → all isBit (take 59 received) ≡ true
-  bits-received h = rw head-received (bits-invert i framePlaces (bodyOf s) (all-binary (bodyOf s) (bodyOf-binary s h)))
+  sync-heard : number (take 13 heard) ≡ 0b0011101101000
+  unfolding heard number bit
+  sync-heard = refl
 
-  length-received : length received ≡ 59 + (s .seconds - 59 + length rest)
-  unfolding received
-  length-received = omega (arith, length-append {A = ℕ} (replicate (s .seconds - 59) 0) rest, length-replicate {A = ℕ} (s .seconds - 59) 0)
+  behind-heard : drop 59 heard ≡ replicate (s .seconds - 59) 0 ++ rest
+  unfolding heard
+  behind-heard = refl
 
-  pub length-inverted : 59 ≤ s .seconds → length (inverted i (frame s)) ≡ s .seconds
-  unfolding received
-  length-inverted h = omega (arith, length-replicate {A = ℕ} (s .seconds - 59) 0)
+  head-heard : take 59 heard ≡ received r (bodyOf s)
+  unfolding heard
+  head-heard = refl
+
+  bits-heard : Bits r → s .notice ≤ 1 → all isBit (take 59 heard) ≡ true
+  unfolding received withUnread inverted
+  bits-heard b h =
+      let sent = bits-invert (r .place) framePlaces (bodyOf s) (all-binary (bodyOf s) (bodyOf-binary s h)) in
+      rw head-heard (bits-set _ 39 (r .bit39) (bits-set _ 29 (r .bit29) (bits-set _ 19 (r .bit19) sent (b .bit19-ok)) (b .bit29-ok)) (b .bit39-ok))
+
+  length-heard : length heard ≡ 59 + (s .seconds - 59 + length rest)
+  unfolding heard
+  length-heard = omega (arith, length-append {A = ℕ} (replicate (s .seconds - 59) 0) rest, length-replicate {A = ℕ} (s .seconds - 59) 0)
 
   module _ (l : Legal s) where
-    state-is : stateOf (number (stateIn received)) ≡ 4 * s .leap + s .daylight
+    state-is : stateOf (number (stateIn heard)) ≡ 4 * s .leap + s .daylight
     state-is =
         let k : 4 * s .leap + s .daylight < 12 = omega (arith, l .leap-ok, l .daylight-ok) in
-        rw (state-received, number-bits 5 (getD stateWords (4 * s .leap + s .daylight) 0), mod-eq-of-lt (state-word-lt (4 * s .leap + s .daylight) k)) (state-back (4 * s .leap + s .daylight) k)
+        rw (state-heard, number-bits 5 (getD stateWords (4 * s .leap + s .daylight) 0), mod-eq-of-lt (state-word-lt (4 * s .leap + s .daylight) k)) (state-back (4 * s .leap + s .daylight) k)
 
-    next-is : number (nextIn received) ≡ getD nextWords (s .row) 0
+    next-is : number (nextIn heard) ≡ getD nextWords (s .row) 0
     next-is =
         let r = row-small (s .daylight) (s .row) (l .row-ok) in
-        rw (next-received, number-bits 6 (getD nextWords (s .row) 0)) (mod-eq-of-lt (next-word-lt (s .row) (r .0) (r .1)))
+        rw (next-heard, number-bits 6 (getD nextWords (s .row) 0)) (mod-eq-of-lt (next-word-lt (s .row) (r .0) (r .1)))
 
-    entry-received : i ≤ 31 → entryOf received ≡ sentEntry s i
-    unfolding entryOf sentEntry
-    entry-received h =
+    entry-heard : Bits r → entryOf heard ≡ receivedEntry s r
+    unfolding entryOf receivedEntry sentEntry
+    entry-heard b =
         let k = 4 * s .leap + s .daylight in
-        let w : reading (wordIn received) ≡ record { minute = s .minute; place = i } = rw word-received (read-inverted (s .minute) i (omega (arith, l .minute-ok)) h) in
+        let w : reading (wordIn heard) ≡ record { minute = s .minute; place = r .place } =
+        rw word-heard (read-inverted (s .minute) (r .place) (omega (arith, l .minute-ok)) (b .place-ok)) in
         let q : k / 4 ≡ s .leap = omega (arith, l .daylight-ok) in
-        let r : k % 4 ≡ s .daylight = omega (arith, l .daylight-ok) in
+        let d : k % 4 ≡ s .daylight = omega (arith, l .daylight-ok) in
         rw (
           w,
           state-is,
           next-is,
-          echo-received,
-          notice-received,
+          echo-heard,
+          notice-heard,
           q,
-          r,
+          d,
           row-back (s .daylight) (s .row) (omega (arith, l .daylight-ok)) (l .row-ok),
-          eq-eqb (s .minute % 2) (s .minute % 2) refl,
           ← l .seconds-ok,
         )
 
-    trip : (one : Bool) → i ≤ 31 → enough one (s .seconds) (length received) ≡ true → readFrame one received ≡ entry (sentEntry s i)
-    unfolding sentEntry
-    trip one h fits =
-        let k : stateOf (number (stateIn received)) < 12 = rw state-is (omega (arith, l .leap-ok, l .daylight-ok)) in
-        yes-9 one received (omega (arith, length-received)) (bits-received (l .notice-ok)) sync-received k
-        ∙ rw (entry-received h)
-        (yes-13 one received (sentEntry s i) (row-small (s .daylight) (s .row) (l .row-ok) .1) (l .minute-ok) (or-true (eqb i 0))
-        (and-true fits (rw behind-received (zeros-pass (s .seconds - 59) rest))))
+    trip : (one : Bool) → Bits r → enough one (s .seconds) (length heard) ≡ true → readFrame one heard ≡ entry (receivedEntry s r)
+    unfolding receivedEntry sentEntry
+    trip one b fits =
+        let k : stateOf (number (stateIn heard)) < 12 = rw state-is (omega (arith, l .leap-ok, l .daylight-ok)) in
+        yes-9 one heard (omega (arith, length-heard)) (bits-heard b (l .notice-ok)) sync-heard k
+        ∙ rw (entry-heard b)
+        (yes-13 one heard (receivedEntry s r) (row-small (s .daylight) (s .row) (l .row-ok) .1) (l .minute-ok)
+        (and-true fits (rw behind-heard (zeros-pass (s .seconds - 59) rest))))
+
+    -- a frame of a recording, with anything behind it
+    pub frame-heard : Bits r → readFrame false (received r (frame s) ++ rest) ≡ entry (receivedEntry s r)
+    unfolding enough
+    frame-heard b = rw heard-is (trip false b (le-leb (s .seconds) (length heard) (omega (arith, length-heard, long s l))))
+
+-- receiving keeps the length
+pub length-received : (r : Reception) (f : List ℕ) → length (received r f) ≡ length f
+unfolding received withUnread inverted
+length-received r f = simp (length-set, length-invert (r .place) framePlaces f)
+
+-- ---- with nothing changed but a place
+
+-- the minute's frame is received as inverted
+pub only-place : (s : Sent) (i : ℕ) → received (onlyPlace (s .minute) i) (frame s) ≡ inverted i (frame s)
+unfolding received withUnread onlyPlace inverted frame bodyOf body sync framePlaces invertAt flip from codeWord parities bits
+only-place s i = refl
+
+pub only-place-entry : (s : Sent) (i : ℕ) → receivedEntry s (onlyPlace (s .minute) i) ≡ sentEntry s i
+unfolding receivedEntry onlyPlace sentEntry
+only-place-entry s i = rw (eq-eqb (s .minute % 2) (s .minute % 2) refl)
+
+pub only-place-bits : (m i : ℕ) → i ≤ 31 → Bits (onlyPlace m i)
+unfolding onlyPlace isBit
+only-place-bits m i h = record { place-ok = h; bit19-ok = le-leb (m % 2) 1 (omega arith); bit29-ok = refl; bit39-ok = refl }
+
+pub only-place-reception : (m i : ℕ) → leb i 31 ≡ true → isReception (onlyPlace m i) ≡ true
+unfolding isReception onlyPlace isBit
+only-place-reception m i h = and-true h (and-true (le-leb (m % 2) 1 (omega arith)) refl)
+
+module _ (s : Sent) (i : ℕ) (rest : List ℕ) where
+  pub length-inverted : 59 ≤ s .seconds → length (inverted i (frame s)) ≡ s .seconds
+  unfolding inverted frame bodyOf body sync framePlaces invertAt flip from codeWord parities bits
+  length-inverted h = omega (arith, length-replicate {A = ℕ} (s .seconds - 59) 0)
 
 -- a frame of a recording, with anything behind it
 pub frame-round-trip : (s : Sent) → Legal s → (i : ℕ) → i ≤ 31 → (rest : List ℕ) → readFrame false (inverted i (frame s) ++ rest) ≡ entry (sentEntry s i)
-unfolding enough
 frame-round-trip s l i h rest =
-    rw (received-is s i rest) (trip s i rest l false h (le-leb (s .seconds) (length (received s i rest)) (omega (arith, length-received s i rest, long s l))))
+    rw (← only-place s i, ← only-place-entry s i) (frame-heard s (onlyPlace (s .minute) i) rest l (only-place-bits (s .minute) i h))
 
 -- one frame alone
-pub single-round-trip : (s : Sent) → Legal s → (i : ℕ) → i ≤ 31 → readFrame true (inverted i (frame s)) ≡ entry (sentEntry s i)
+pub single-heard : (s : Sent) → Legal s → (r : Reception) → Bits r → readFrame true (received r (frame s)) ≡ entry (receivedEntry s r)
 unfolding enough
+single-heard s l r b =
+    rw (← append-nil (received r (frame s)), heard-is s r [])
+    (trip s r [] l true b (eq-eqb (s .seconds) (length (heard s r [])) (omega (arith, length-heard s r [], long s l))))
+
+pub single-round-trip : (s : Sent) → Legal s → (i : ℕ) → i ≤ 31 → readFrame true (inverted i (frame s)) ≡ entry (sentEntry s i)
 single-round-trip s l i h =
-    rw (← append-nil (inverted i (frame s)), received-is s i [])
-    (trip s i [] l true h (eq-eqb (s .seconds) (length (received s i [])) (omega (arith, length-received s i [], long s l))))
+    rw (← only-place s i, ← only-place-entry s i) (single-heard s l (onlyPlace (s .minute) i) (only-place-bits (s .minute) i h))

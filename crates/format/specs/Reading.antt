@@ -1,7 +1,7 @@
--- Reading one frame: its entry (document 01, "Frame" and "Recordings and entries"), and questions 5 to 13 ("Questions in order").
+-- Reading one frame: its entry (document 01, "Frame" and "Recordings and entries"), and questions 5 to 11 and 13 ("Questions in order").
 -- Assumes nothing.
 use Prim.Native.Nat.{ℕ, zero, suc, _-_, _/_, _%_}
-use mathlib.Core.Bool.{Bool, true, false, _&&_, _||_}
+use mathlib.Core.Bool.{Bool, true, false, _&&_}
 use mathlib.Core.List.{List, _++_}
 use lib.Dec.{leb, ltb, eqb}
 use lib.ListN.{length, take, drop, getD}
@@ -51,18 +51,17 @@ entryOf f =
       echo = pick (eqb (getD f 19 0) (t .minute % 2)) 1 0;
     }
 
--- questions 10 to 13 of a frame f with the entry e, alone or not: is the next-change word assigned (10)?
--- Is the chosen minute at most 52,595,999 (11)? If a place was repaired, does the echo equal the chosen time[0] (12)?
--- Are as many bytes as called for left, or given, and those behind byte 58 all 0 (13)?
+-- questions 10, 11 and 13 of a frame f with the entry e, alone or not: is the next-change word assigned (10)?
+-- Is the chosen minute at most 52,595,999 (11)? Are as many bytes as called for left, or given, and those behind byte 58 all 0 (13)?
+-- Question 12 is not put (document 02, 2): the echo is weak, and its byte alone tells of it.
 unfoldable pub askFields : Bool → List ℕ → Entry → Answer
 askFields alone f e =
     ask 10 (ltb (e .row) 52)
     (ask 11 (ltb (e .minute) minuteCount)
-    (ask 12 (eqb (e .place) 0 || eqb (e .echo) 1)
     (ask 13 (enough alone (e .seconds) (length f) && all isZero (take (e .seconds - 59) (drop 59 f)))
-    (entry e))))
+    (entry e)))
 
--- questions 6 to 13 of one frame alone (true), or of the next frame of a recording (false): are 59 bytes left (6)?
+-- questions 6 to 11 and 13 of one frame alone (true), or of the next frame of a recording (false): are 59 bytes left (6)?
 -- Are the first 59 all 0 or 1 (7)? Is the sync word right (8)? Is the state word legal (9)? Then those of the fields.
 unfoldable pub readFrame : Bool → List ℕ → Answer
 readFrame alone f =

@@ -1,12 +1,12 @@
 -- The questions of reading one frame, each a test of its own (document 01, "Questions in order"), and the theorems on refusals.
 -- Assumes nothing.
 use Prim.Native.Nat.{ℕ, _-_, _/_, _%_, _≤_, _<_}
-use mathlib.Core.Bool.{Bool, true, false, _&&_, _||_}
+use mathlib.Core.Bool.{Bool, true, false, _&&_}
 use mathlib.Core.List.{List, [], _∷_, _++_}
-use mathlib.Core.Logic.{_⊎_, _↔_}
+use mathlib.Core.Logic.{_⊎_, _↔_, _≢_}
 use mathlib.Core.Path.{_≡_}
 use lib.Dec.{leb, ltb, eqb}
-use lib.ListN.{length, take, drop, getD}
+use lib.ListN.{length, take, drop}
 use Rattle.bits.specs.Bits.{pick, number, isBit, isZero, all}
 use Rattle.calendar.specs.Calendar.{lastOfMonth}
 use Rattle.timeword.specs.TimeWord.{reading}
@@ -73,10 +73,6 @@ chosen f = reading (wordIn f)
 abbrev pub question11 : List ℕ → Bool
 question11 f = leb (chosen f .minute) 52595999
 
--- 12. If a place was repaired, does the echo equal the chosen time[0]?
-abbrev pub question12 : List ℕ → Bool
-question12 f = eqb (chosen f .place) 0 || eqb (getD f 19 0) (chosen f .minute % 2)
-
 -- the length called for
 abbrev pub lengthCalled : List ℕ → ℕ
 lengthCalled f = secondsFor (stateRead f / 4) (lastOfMonth (chosen f .minute))
@@ -87,11 +83,11 @@ question13 alone f =
     pick alone (eqb (lengthCalled f) (length f)) (leb (lengthCalled f) (length f))
     && all isZero (take (lengthCalled f - 59) (drop 59 f))
 
--- the questions of a frame, in order: of one frame alone, or of the next frame of a recording
+-- the questions of a frame, in order: of one frame alone, or of the next frame of a recording; there is no 12 (document 02, 2)
 unfoldable pub frameQuestions : Bool → List ℕ → List Question
 frameQuestions alone f =
     (6, question6 f) ∷ (7, question7 f) ∷ (8, question8 f) ∷ (9, question9 f)
-    ∷ (10, question10 f) ∷ (11, question11 f) ∷ (12, question12 f) ∷ (13, question13 alone f)
+    ∷ (10, question10 f) ∷ (11, question11 f) ∷ (13, question13 alone f)
     ∷ []
 
 -- the questions of reading one frame into an entry buffer
@@ -108,11 +104,11 @@ FrameAccepted = (alone : Bool) (f : List ℕ) → readFrame alone f ≡ entry (e
 abbrev pub FrameRefused : Type 0
 FrameRefused = (alone : Bool) (f : List ℕ) (n : ℕ) → readFrame alone f ≡ refused n ↔ FirstNo (frameQuestions alone f) n
 
--- there is no other answer, and a refusal is one of 6 to 13
+-- there is no other answer, and a refusal is one of 6 to 11 and 13
 abbrev pub FrameAnswers : Type 0
 FrameAnswers =
     (alone : Bool) (f : List ℕ)
-    → (readFrame alone f ≡ entry (entryOf f)) ⊎ ((n : ℕ) × (6 ≤ n) × (n ≤ 13) × (readFrame alone f ≡ refused n))
+    → (readFrame alone f ≡ entry (entryOf f)) ⊎ ((n : ℕ) × (6 ≤ n) × (n ≤ 13) × (n ≢ 12) × (readFrame alone f ≡ refused n))
 
 -- reading one frame gives 0 exactly when every question is answered yes
 abbrev pub OneAccepted : Type 0
@@ -122,9 +118,11 @@ OneAccepted = (buffer f : List ℕ) → readOne buffer f .refusal ≡ 0 ↔ AllY
 abbrev pub OneRefused : Type 0
 OneRefused = (buffer f : List ℕ) (n : ℕ) → 0 < n → readOne buffer f .refusal ≡ n ↔ FirstNo (oneQuestions buffer f) n
 
--- it gives 0 or one of 5 to 13
+-- it gives 0 or one of 5 to 11 and 13
 abbrev pub OneAnswers : Type 0
-OneAnswers = (buffer f : List ℕ) → (readOne buffer f .refusal ≡ 0) ⊎ ((5 ≤ readOne buffer f .refusal) × (readOne buffer f .refusal ≤ 13))
+OneAnswers =
+    (buffer f : List ℕ)
+    → (readOne buffer f .refusal ≡ 0) ⊎ ((5 ≤ readOne buffer f .refusal) × (readOne buffer f .refusal ≤ 13) × (readOne buffer f .refusal ≢ 12))
 
 -- the entry buffer after it: the entry's 12 bytes and then the rest as before; refused, as it was
 abbrev pub OneBuffer : Type 0

@@ -65,14 +65,17 @@ legal = refl
 one : Entry
 one = record { minute = 0; seconds = 60; daylight = 0; leap = 0; row = 50; notice = 0; place = 31; echo = 1 }
 
+other : Entry
+other = record { minute = 16_387; seconds = 60; daylight = 0; leap = 0; row = 50; notice = 0; place = 17; echo = 0 }
+
 abbrev Frames : List ℕ → Type 0
 Frames f =
     (readFrame true (inverted 31 f) ≡ entry one)
-    × (readFrame true (inverted 30 (inverted 31 f)) ≡ refused 12)
+    × (readFrame true (inverted 30 (inverted 31 f)) ≡ entry other)
     × (readFrame true (withState (0 ∷ 0 ∷ []) (0 ∷ 1 ∷ 0 ∷ []) f) ≡ refused 9)
 
 frames0 : Frames frame0
-unfolding one inverted invertAt flip framePlaces from readFrame ask askFields enough entryOf secondsFor reading errorPlace first isCodeWord same minuteOf invert number wordIn stateIn nextIn stateOf rowOf rowFits all isBit isZero frame sentBy bodyOf body sync codeWord bits rowAt rowFor daylightAt stateWords nextWords lengthAt leapAt lastOfMonth monthIndex dateAt dateFrom yearOfDay monthOfDay walk yearLengths lengthsFrom yearLength monthsOf monthLengths before leapYear parities parity sumOf bit par0 par1 par2 par3 par4
+unfolding one other inverted invertAt flip framePlaces from readFrame ask askFields enough entryOf secondsFor reading errorPlace first isCodeWord same minuteOf invert number wordIn stateIn nextIn stateOf rowOf rowFits all isBit isZero frame sentBy bodyOf body sync codeWord bits rowAt rowFor daylightAt stateWords nextWords lengthAt leapAt lastOfMonth monthIndex dateAt dateFrom yearOfDay monthOfDay walk yearLengths lengthsFrom yearLength monthsOf monthLengths before leapYear parities parity sumOf bit par0 par1 par2 par3 par4
 frames0 = (refl, refl, refl)
 
 pub bench-table : BenchTable
@@ -89,6 +92,6 @@ bench-table =
       leap-month-149-last = last;
       leap-month-149-next = (next, next-leap);
       time-0-inverted = (legal, one, frames0 .0, (unfold one in refl), (unfold one in refl));
-      time-0-and-1-inverted = frames0 .1;
+      time-0-and-1-inverted = (other, frames0 .1, (unfold other in refl), (unfold other in refl), (unfold other in refl));
       state-word-00010 = frames0 .2;
     }

@@ -24,7 +24,7 @@ use Rattle.sequence.specs.Reading.{readRecording, follows, secondsOf}
 use Rattle.sequence.specs.Demand.{isPlace, SpaceEnough, recorded, sentEntries, bitsSent, noPlaces}
 use Rattle.sequence.specs.RoundTrip.{ReadsBack, SumsFor, LengthsSum, WrittenFor, WrittenReadsBack, SingleReadsBack}
 use Rattle.sequence.specs.declared.Due.the-variants.{Any}
-use Rattle.sequence.proofs.RoundTrip.{sentFound, trip, nothing-inverted, read-as-sent}
+use Rattle.sequence.proofs.Places.{sentFound, trip-sent, nothing-inverted, read-as-sent}
 use Rattle.sequence.proofs.Seconds.{seconds-sent}
 use Rattle.sequence.proofs.Sums.{length-recording}
 
@@ -35,9 +35,9 @@ places-none (suc n) = places-none n
 
 pub reads-back : ReadsBack
 reads-back p m n buffer legal range space =
+    let e : length (noPlaces n) ≡ n = length-replicate n 0 in
     rw (← nothing-inverted p m n)
-    (read-as-sent p m n (noPlaces n) buffer
-    (record { legal = legal; in-range = range; one-each = length-replicate n 0; places = places-none n; space = space }))
+    (rw e at (read-as-sent p m (noPlaces n) buffer legal (rw e range) (places-none n) (rw e space)))
 
 -- ---- the sums
 
@@ -52,7 +52,7 @@ module _ (p : Plan) (m n space : ℕ) (legal : legalPlan p ≡ true) (range : m 
   found =
       let e : length (noPlaces n) ≡ n = length-replicate n 0 in
       rw (← nothing-inverted p m n)
-      (rw e at (trip p legal (noPlaces n) m (space / 12) Any (places-none n) (omega arith) (omega arith) refl))
+      (rw e at (trip-sent p legal (noPlaces n) m (space / 12) Any (places-none n) (omega arith) (omega arith) refl))
 
   sums : SumsFor p m n space
   unfolding sentFound
