@@ -8,13 +8,13 @@ use Rattle.format.specs.Entry.{Entry}
 use Rattle.format.specs.Reading.{Answer, refused, entry, OneOutcome}
 use Rattle.frame.specs.declared.Fields.{Fields}
 use Rattle.frame.specs.declared.Refusal.{Refusal}
-use Rattle.frame.specs.declared.Refusal.the-variants.{EntrySpace, Short, NotBits, Sync, StateWord, NextWord, Minute, Echo, Length, Order}
+use Rattle.frame.specs.declared.Refusal.the-variants.{EntrySpace, Short, NotBits, Sync, StateWord, NextWord, Minute, Length, Order}
 use Rattle.frame.specs.declared.End.{End}
 use Rattle.frame.specs.declared.End.the-variants.{Complete, Refused as EndRefused}
 use Rattle.frame.specs.declared.FrameAnswer.{FrameAnswer}
 use Rattle.frame.specs.declared.FrameAnswer.the-variants.{Read, Refused}
 
--- the number of the question that got a no
+-- the number of the question that got a no; 12 is given no more (document 02, 2)
 abbrev pub refusalNumber : Refusal → ℕ
 refusalNumber EntrySpace = 5
 refusalNumber Short = 6
@@ -23,7 +23,6 @@ refusalNumber Sync = 8
 refusalNumber StateWord = 9
 refusalNumber NextWord = 10
 refusalNumber Minute = 11
-refusalNumber Echo = 12
 refusalNumber Length = 13
 refusalNumber Order = 14
 

@@ -23,7 +23,7 @@ use codewords::State;
 use codewords::StateAnswer;
 use plan::Plan;
 
-// The question of document 01 that got a no, numbers 5 to 14.
+// The question of document 01 that got a no, numbers 5 to 11, 13 and 14.
 pub enum Refusal {
     EntrySpace,
     Short,
@@ -32,7 +32,6 @@ pub enum Refusal {
     StateWord,
     NextWord,
     Minute,
-    Echo,
     Length,
     Order,
 }
@@ -72,7 +71,6 @@ impl Refusal {
             Refusal::StateWord => 9,
             Refusal::NextWord => 10,
             Refusal::Minute => 11,
-            Refusal::Echo => 12,
             Refusal::Length => 13,
             Refusal::Order => 14,
         }
@@ -165,7 +163,7 @@ fn ends_right(frame: &[u8], alone: bool, seconds: usize) -> bool
     bits::is_zero(&frame[BODY..seconds])
 }
 
-// Questions 10 to 13, of a frame whose first 59 bits and state are read.
+// Questions 10, 11 and 13, of a frame whose first 59 bits and state are read.
 fn read_fields(frame: &[u8], alone: bool, word: u64, state: State) -> FrameAnswer
     requires { ⌜ (take 59 (now frame) ≡ bits 59 word) × (stateNumber state ≡ stateOf (number (stateIn (now frame)))) ⌝ }
     ensures { λ r. ⌜ frameNumbers r ≡ askFields alone (now (frame .entry)) (entryOf (now (frame .entry))) ⌝ }
@@ -181,16 +179,11 @@ fn read_fields(frame: &[u8], alone: bool, word: u64, state: State) -> FrameAnswe
     if Date::MINUTES <= minute {
         return FrameAnswer::Refused(Refusal::Minute);
     }
-    let echo = layout::echo_right(word, minute);
-    if place != 0 {
-        if echo != 1 {
-            return FrameAnswer::Refused(Refusal::Echo);
-        }
-    }
     let leap = state.leap;
     let length = length_for(leap, minute);
     if ends_right(frame, alone, length as usize) {
         let notice = ((word >> 9) % 2) as u8;
+        let echo = layout::echo_right(word, minute);
         let fields = Fields {
             minute,
             length,

@@ -24,7 +24,8 @@ use Rattle.sequence.specs.Demand.{isPlace, invertEach, recorded, sentEntries, s
 use Rattle.sequence.specs.declared.Due.{Due}
 use Rattle.sequence.specs.declared.Due.the-variants.{Any, Minute}
 use Rattle.sequence.proofs.Resume.{length-bytes}
-use Rattle.sequence.proofs.RoundTrip.{length-sent, follows-self, first-round-trip}
+use Rattle.sequence.proofs.RoundTrip.{follows-self}
+use Rattle.sequence.proofs.Places.{length-sent, first-round-trip}
 use Rattle.sequence.proofs.Steps.{ended, no-space}
 use Rattle.sequence.proofs.Seconds.{seconds-sent}
 use Rattle.loopback.specs.Loopback.{sentInto}
@@ -65,7 +66,7 @@ module _ (p : Plan) (legal : legalPlan p ≡ true) where
       no-space due _ (some m i (omega arith) (leb-true i 31 (head-true (isPlace i) (all isPlace is) l)) (concat (invertEach is (frames p (suc m) (length is)))))
       ∙ rw (leb·suc-zero (length is))
   cut (i ∷ is) m (suc n) due l h d =
-      first-round-trip p legal m i (omega arith) (leb-true i 31 (head-true (isPlace i) (all isPlace is) l)) n due d (concat (invertEach is (frames p (suc m) (length is))))
+      first-round-trip p m i legal (omega arith) (leb-true i 31 (head-true (isPlace i) (all isPlace is) l)) n due d (concat (invertEach is (frames p (suc m) (length is))))
       ∙ ap (add (sentEntry (sentBy p m) i)) (cut is (suc m) n (Minute (suc m)) (tail-true (isPlace i) (all isPlace is) l) (omega arith) (follows-self (suc m)))
       ∙ rw (leb·suc-suc (length is) n) (unfold sentEntry sentBy in refl)
 
