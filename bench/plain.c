@@ -289,7 +289,7 @@ static uint32_t get(const uint8_t *bits, int n)
 static unsigned read_frame(const uint8_t *f, size_t left, uint8_t *entry, uint32_t due, int any)
 {
     uint32_t word, minute;
-    unsigned i, state, row, place, echo, length = 60;
+    unsigned i, state, row, place, length = 60;
 
     if (left < 59)
         return WWVB_TOO_SHORT;
@@ -311,9 +311,6 @@ static unsigned read_frame(const uint8_t *f, size_t left, uint8_t *entry, uint32
     minute = word & 0x3ffffff;
     if (minute >= WWVB_MINUTES)
         return WWVB_BAD_MINUTE;
-    echo = f[19] == (minute & 1);
-    if (place && !echo)
-        return WWVB_BAD_ECHO;
     if (state >= 4) {
         struct day d = day_at(minute / 1440);
         length = length_of(state / 4, minute, &d);
@@ -335,7 +332,7 @@ static unsigned read_frame(const uint8_t *f, size_t left, uint8_t *entry, uint32
     entry[7] = (uint8_t)row;
     entry[8] = f[49];
     entry[9] = (uint8_t)place;
-    entry[10] = (uint8_t)echo;
+    entry[10] = f[19] == (minute & 1);
     entry[11] = 0;
     return WWVB_OK;
 }

@@ -1,4 +1,4 @@
-/* A plain C codec to measure against: straightforward code from document 01, with the library's calls. */
+/* A plain C codec to measure against: straightforward code from documents 01 and 02, with the library's calls. */
 #ifndef PLAIN_H
 #define PLAIN_H
 

@@ -69,6 +69,7 @@ int main(void)
     next = take("one 9 minutes on", noon + 9);
     judge(&first, &next);
     next.bits[46] ^= 1; /* one bit of its time word is heard wrong, and repaired */
+    next.bits[19] ^= 1; /* its echo is heard wrong too, and the entry's echo byte is 0 */
     judge(&first, &next);
     next = take("one 10 minutes on", noon + 10);
     judge(&first, &next);

@@ -50,7 +50,7 @@ enum wwvb_refusal {
     WWVB_BAD_STATE = 9,       /* reading: the state word is illegal */
     WWVB_BAD_NEXT_CHANGE = 10, /* reading: the next-change word is not assigned */
     WWVB_BAD_MINUTE = 11,     /* reading: the minute read is past 52,595,999 */
-    WWVB_BAD_ECHO = 12,       /* reading: a place was repaired, and the echo is not the chosen time[0] */
+    /* 12 is given no more */
     WWVB_BAD_LENGTH = 13,     /* reading: too few bytes for the length called for (one frame alone: not exactly so
                                  many), or one of those behind byte 58 is not 0 */
     WWVB_OUT_OF_ORDER = 14,   /* reading a recording: the minute is not one more than that of the frame before */
@@ -68,7 +68,8 @@ enum wwvb_entry_byte {
     WWVB_ENTRY_ROW = 7,      /* row of the next-change word, 1 to 51 (NIST Table 8) */
     WWVB_ENTRY_NOTICE = 8,   /* 0 or 1 */
     WWVB_ENTRY_PLACE = 9,    /* place of the time word that was repaired, 1 to 31, or 0 for none */
-    WWVB_ENTRY_ECHO = 10     /* 1 where the echo equals time[0], else 0 */
+    WWVB_ENTRY_ECHO = 10     /* 1 where bit 19 equals time[0] of the minute read, else 0; a frame is
+                                accepted either way */
 };
 
 /* The refusal (0 or 3; local date: 0, 3 or 16), and the date; refused, every other field is 0. Weekday 0 is Saturday, 6 is Friday. */
@@ -94,8 +95,8 @@ typedef struct wwvb_write_reply {
     size_t bits;
 } wwvb_write_reply;
 
-/* The number of entries, the bits of the frames that they tell of, and the refusal (0, or 5 to 14). Refused, entries
-   and used are those of the frames before the refused one, which begins at bits[used]. */
+/* The number of entries, the bits of the frames that they tell of, and the refusal (0, 5 to 11, 13 or 14). Refused,
+   entries and used are those of the frames before the refused one, which begins at bits[used]. */
 typedef struct wwvb_read_reply {
     size_t entries;
     size_t used;
@@ -136,15 +137,16 @@ wwvb_write_reply wwvb_write_recording(uint32_t kind, uint32_t spring, uint32_t a
                                       uint8_t *out, size_t out_length);
 
 /*
- * Reads one frame, which is all of `bits`. Gives the refusal: 0, or 5 to 13.
+ * Reads one frame, which is all of `bits`. Gives the refusal: 0, 5 to 11, or 13.
  * After the call the first 12 bytes of `entry` are the frame's entry, and every byte behind them is as before; refused,
- * every byte of `entry` is as before. Bits 29 and 39 may be 0 or 1, and change nothing.
+ * every byte of `entry` is as before. Bits 19, 29 and 39 may be 0 or 1: bit 19, the echo, changes the entry's echo byte
+ * alone, and bits 29 and 39 change nothing.
  */
 uint32_t wwvb_read_frame(const uint8_t *bits, size_t bits_length, uint8_t *entry, size_t entry_length);
 
 /*
  * Reads the frames of a recording, which begins at a frame's first bit, until no bits are left or a frame is refused.
- * No bits at all give no entries and 0. Refusals: 5 to 14.
+ * No bits at all give no entries and 0. Refusals: 5 to 11, 13 and 14. Bits 19, 29 and 39 of each frame may be 0 or 1 as above.
  * After the call `entries` holds the entries read, 12 bytes each, from entries[0] on, and every byte behind them is as
  * before, refused or not.
  */

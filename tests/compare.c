@@ -1,7 +1,7 @@
 /*
  * Compares every call of the library with the plain C reference: on boundary cases, and on seeded random ones, valid and
  * damaged. Each buffer stands between guard bytes and a page that may not be touched; buffer and guards are compared
- * whole after the call, refused or not.
+ * whole after the call, refused or not. Each number that a call can give is seen, and no other; no call gives 12.
  *
  * usage: compare [CASES [SEED [exact]]]
  *   exact: buffers are blocks of malloc of just their length, for valgrind
@@ -31,6 +31,8 @@ static const char *const call_names[CALLS] = {
 /* The numbers that a call can give. */
 static int can_give(enum call c, unsigned n)
 {
+    if (n == 12) /* given no more */
+        return 0;
     switch (c) {
     case TO_DATE: return n == 0 || n == 3;
     case TO_MINUTE: return n == 0 || n == 15;
@@ -375,6 +377,14 @@ static void set_state(uint8_t *frame, unsigned word)
     set_word(frame + 50, word & 7, 3);
 }
 
+/* Bits 19, 29 and 39, from a number below 8. */
+static void set_at_will(uint8_t *frame, unsigned value)
+{
+    frame[19] = value >> 2;
+    frame[29] = value >> 1 & 1;
+    frame[39] = value & 1;
+}
+
 /* One damage to the frame at bits[at]; gives the recording's new length. */
 static size_t damage(uint8_t *bits, size_t length, size_t at)
 {
@@ -500,10 +510,13 @@ static void random_read(void)
     uint32_t n = few(), first = random_minute(&p), i;
     size_t length = recording(&p, first, n, scratch), space = (size_t)n * WWVB_ENTRY_SIZE;
 
-    if (one_in(3)) /* one bit of the time word in each frame, while the frames have 60 bits */
-        for (i = 0; i < n && (size_t)i * 60 + 60 <= length; i++)
+    if (one_in(3)) /* one bit of the time word in each frame, and those at will, while the frames have 60 bits */
+        for (i = 0; i < n && (size_t)i * 60 + 60 <= length; i++) {
             if (one_in(2))
                 scratch[i * 60 + ref_bit_of_place(1 + below(31))] ^= 1;
+            if (one_in(2))
+                set_at_will(scratch + i * 60, below(8));
+        }
     if (one_in(4)) { /* more frames, in order or not, by the same plan or another */
         if (one_in(2))
             p = random_plan();
@@ -744,6 +757,56 @@ static void boundary_frames(void)
     }
 }
 
+/* A frame with the place of its time word inverted, or none for 0, bit 19 by the echo byte, and bits 29 and 39 at will; gives
+   its entry as sent. */
+static void hear(const struct ref_plan *p, uint32_t minute, unsigned place, unsigned echo, uint8_t *frame, uint8_t *entry)
+{
+    if (place)
+        frame[ref_bit_of_place(place)] ^= 1;
+    set_at_will(frame, (echo == (minute & 1)) * 4 + below(4));
+    ref_entry_as_sent(p, minute, place, echo, entry);
+}
+
+/* The last minute of each month in 59 and in 61 bits, and as many minutes in 60: one frame with each place inverted and
+   both echoes, and three as a recording, with other places and echoes. Each is accepted, and the entries are those sent,
+   the echo byte alone following bit 19. */
+static void boundary_echoes(void)
+{
+    uint8_t bits[3 * WWVB_MAX_FRAME], sent[3 * WWVB_ENTRY_SIZE];
+    uint32_t month, k;
+    int32_t sign;
+    unsigned i;
+
+    for (month = 0; month < 1200; month++)
+        for (sign = -1; sign <= 1; sign++) {
+            struct ref_plan p = random_plan();
+            uint32_t minute = sign ? month_end(month) : below(MINUTES), first = minute ? minute - 1 : 0;
+            size_t at, length;
+            if (first > MINUTES - 3)
+                first = MINUTES - 3;
+            p.leap_sign = sign;
+            p.leap_month = sign ? month : 0;
+            for (i = 0; i < 64; i++) {
+                length = recording(&p, minute, 1, bits);
+                hear(&p, minute, i / 2, i % 2, bits, sent);
+                try_one(bits, length, WWVB_ENTRY_SIZE);
+                if (memcmp(out_buffer.at, sent, WWVB_ENTRY_SIZE) != 0)
+                    fail(ONE, "the entry as sent");
+            }
+            for (i = 0; i < 8; i++) {
+                length = recording(&p, first, 3, bits);
+                for (k = 0, at = 0; k < 3; k++) {
+                    uint8_t *entry = sent + k * WWVB_ENTRY_SIZE;
+                    hear(&p, first + k, (month * 8 + i + k * 11) % 32, below(2), bits + at, entry);
+                    at += entry[WWVB_ENTRY_LENGTH];
+                }
+                try_read(bits, length, sizeof sent);
+                if (memcmp(out_buffer.at, sent, sizeof sent) != 0)
+                    fail(READ, "the entries as sent");
+            }
+        }
+}
+
 static void boundary_recordings(void)
 {
     static uint8_t bits[ROOM];
@@ -774,12 +837,12 @@ static void boundary_recordings(void)
     try_read(bits, 0, 12);
 }
 
-/* ---- the bench table of document 01 */
+/* ---- the bench table of document 01, with the row of document 02 that takes the place of 12 */
 
 static void expect(int ok, const char *what)
 {
     if (!ok) {
-        fprintf(stderr, "compare: document 01: %s\n", what);
+        fprintf(stderr, "compare: the bench table: %s\n", what);
         exit(1);
     }
 }
@@ -803,6 +866,11 @@ static int is_daylight(uint32_t minute, unsigned state)
 {
     uint8_t f[61], e[12];
     return frame_of(0, 0, minute, f) == 60 && wwvb_read_frame(f, 60, e, 12) == 0 && e[WWVB_ENTRY_DAYLIGHT] == state;
+}
+
+static uint32_t minute_in(const uint8_t *e)
+{
+    return (uint32_t)e[0] << 24 | (uint32_t)e[1] << 16 | (uint32_t)e[2] << 8 | e[3];
 }
 
 static int has_parity(uint32_t minute, const char *parity)
@@ -837,14 +905,15 @@ static void document(void)
            "the minute after it");
     frame_of(0, 0, 0, f);
     f[46] ^= 1;
-    expect(wwvb_read_frame(f, 60, e, 12) == 0 && (e[0] | e[1] | e[2] | e[3]) == 0 && e[WWVB_ENTRY_PLACE] == 31,
+    expect(wwvb_read_frame(f, 60, e, 12) == 0 && minute_in(e) == 0 && e[WWVB_ENTRY_PLACE] == 31 && e[WWVB_ENTRY_ECHO] == 1,
            "time[0] inverted");
     f[45] ^= 1;
-    expect(wwvb_read_frame(f, 60, e, 12) == WWVB_BAD_ECHO, "time[0] and time[1] inverted");
+    expect(wwvb_read_frame(f, 60, e, 12) == 0 && minute_in(e) == 16387 && e[WWVB_ENTRY_PLACE] == 17
+               && e[WWVB_ENTRY_ECHO] == 0,
+           "time[0] and time[1] inverted");
     f[46] ^= 1;
     f[44] ^= 1;
-    expect(wwvb_read_frame(f, 60, e, 12) == 0 && e[1] == 0 && e[2] == 32774 / 256 && e[3] == 32774 % 256,
-           "time[1] and time[2] inverted");
+    expect(wwvb_read_frame(f, 60, e, 12) == 0 && minute_in(e) == 32774, "time[1] and time[2] inverted");
     frame_of(0, 0, 0, f);
     set_state(f, 2);
     expect(wwvb_read_frame(f, 60, e, 12) == WWVB_BAD_STATE, "state word 00010");
@@ -870,10 +939,11 @@ static int report(void)
         printf("\n");
     }
     printf("%-22s", "  behind a frame read");
-    for (n = 5; n <= 14; n++) {
-        printf(" %u:%lu", n, later[n]);
-        missing += later[n] == 0;
-    }
+    for (n = 5; n <= 14; n++)
+        if (can_give(READ, n)) {
+            printf(" %u:%lu", n, later[n]);
+            missing += later[n] == 0;
+        }
     printf("\n");
     for (c = WRITE; c < CALLS; c++) {
         printf("%-22s lengths", call_names[c]);
@@ -911,6 +981,7 @@ int main(int argc, char **argv)
         boundary_changes();
         boundary_counts();
         boundary_frames();
+        boundary_echoes();
     }
     boundary_recordings();
     boundary = cases;

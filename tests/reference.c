@@ -310,12 +310,21 @@ unsigned ref_write(const struct ref_plan *p, uint32_t first, uint32_t count, uin
     return 0;
 }
 
+void ref_entry_as_sent(const struct ref_plan *p, uint32_t minute, unsigned place, unsigned echo, uint8_t entry[12])
+{
+    unsigned state = ref_daylight(p, minute), leap_state = leap(p, minute);
+    uint8_t bytes[12] = {minute >> 24, minute >> 16 & 255, minute >> 8 & 255, minute & 255, length_for(leap_state, minute),
+                         state, leap_state, row(p, state), p->notice, place, echo, 0};
+
+    memcpy(entry, bytes, 12);
+}
+
 /* ---- reading */
 
-/* Questions 6 to 13 of the frame at the front of the bits; alone: one frame and nothing behind it. */
+/* Questions 6 to 11 and 13 of the frame at the front of the bits; alone: one frame and nothing behind it. */
 static unsigned read_one(const uint8_t *f, size_t length, int alone, uint8_t entry[12])
 {
-    unsigned i, state = 99, leap_state = 0, found = 0, place, seconds, echo;
+    unsigned i, state = 99, leap_state = 0, found = 0, place, seconds;
     uint8_t word[31], five[5];
     uint32_t minute;
 
@@ -346,9 +355,6 @@ static unsigned read_one(const uint8_t *f, size_t length, int alone, uint8_t ent
     minute = time_of(word);
     if (minute >= MINUTES)
         return 11;
-    echo = f[19] == (minute & 1);
-    if (place && !echo)
-        return 12;
     seconds = length_for(leap_state, minute);
     if (alone ? length != seconds : length < seconds)
         return 13;
@@ -365,7 +371,7 @@ static unsigned read_one(const uint8_t *f, size_t length, int alone, uint8_t ent
     entry[7] = found;
     entry[8] = f[49];
     entry[9] = place;
-    entry[10] = echo;
+    entry[10] = f[19] == (minute & 1);
     entry[11] = 0;
     return 0;
 }

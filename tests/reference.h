@@ -27,6 +27,10 @@ unsigned ref_write(const struct ref_plan *plan, uint32_t first, uint32_t count, 
 unsigned ref_read_frame(const uint8_t *bits, size_t length, uint8_t *entry, size_t space);
 unsigned ref_read(const uint8_t *bits, size_t length, uint8_t *entries, size_t space, size_t *count, size_t *used);
 
+/* The entry that a legal plan, a minute, the place inverted in its frame (0: none) and the echo byte give, nothing of it
+   read. */
+void ref_entry_as_sent(const struct ref_plan *plan, uint32_t minute, unsigned place, unsigned echo, uint8_t entry[12]);
+
 /* The number of the bit of a frame at a place, 1 to 31, of its time word. */
 unsigned ref_bit_of_place(unsigned place);
 

@@ -5,6 +5,7 @@ calendar. It shares no code with the crates.
 
 A case is a line of the program's input: a letter that says what is tried, numbers that are not printed, a space, a text,
 a `#`, and bytes to be read. The program prints the text, and behind it what the code gives; the model says what that is.
+Together the cases get each number that a call can give, and no other.
 
 usage: tools/vectors.py            prints the lines
        tools/vectors.py --write    writes crates/vectors/stdin and crates/vectors/stdout
@@ -175,8 +176,6 @@ def read_frame(bits, alone):
     if minute > LAST:
         return 11, None
     echo = bits[19] == minute % 2
-    if place and not echo:
-        return 12, None
     length = {0: 60, 1: 59, 2: 61}[leap] if is_month_end(minute) else 60
     if len(bits) < length or alone and len(bits) != length or any(bits[59:length]):
         return 13, None
@@ -250,6 +249,26 @@ def case(word, text, answer, given=""):
     LINES.append(text + answer)
 
 
+# The numbers that each call can give, 0 for no refusal; 12 is none of them.
+NUMBERS = {
+    "date": {0, 3},
+    "minute": {0, 15},
+    "local date": {0, 3, 16},
+    "writing": {0, 1, 2, 3, 4},
+    "one frame": {0, 5, 6, 7, 8, 9, 10, 11, 13},
+    "first frame": {0, 5, 6, 7, 8, 9, 10, 11, 13},
+    "later frame": {0, 5, 6, 7, 8, 9, 10, 11, 13, 14},
+}
+GIVEN = {}
+
+
+def told(call, refusal):
+    """The refusal that a case gets, or 0."""
+    assert refusal in NUMBERS[call], f"{call}: {refusal}"
+    GIVEN.setdefault(call, set()).add(refusal)
+    return refusal
+
+
 def spaced(*parts):
     return "".join(f" {p}" for p in parts)
 
@@ -265,13 +284,13 @@ def given(bits):
 def entry_text(bits, space):
     """What reading one frame gives."""
     refusal, buffer = read_one(bits, [7] * 14, space)
-    return ":" + spaced(refusal, "|", *buffer)
+    return ":" + spaced(told("one frame", refusal), "|", *buffer)
 
 
 def entries_text(bits, space):
     """What reading a recording gives."""
     count, used, refusal, buffer = read_recording(bits, [7] * 38, space)
-    return ":" + spaced(count, used, refusal, "|", *buffer)
+    return ":" + spaced(count, used, told("later frame" if count else "first frame", refusal), "|", *buffer)
 
 
 def one(label, bits, n, space):
@@ -315,6 +334,7 @@ def date(minute):
         answer = (3,)
     else:
         answer = (0, *shown(date_of(minute)), 0, minute)
+    told("date", answer[0])
     case("d", f"minute {minute}:", spaced(*answer))
 
 
@@ -325,6 +345,7 @@ def minute(*numbers):
     except (ValueError, OverflowError):
         real = False
     answer = (0, minute_of(*numbers)) if real else (15,)
+    told("minute", answer[0])
     case("m", f"date{spaced(*numbers)}:", spaced(*answer))
 
 
@@ -343,6 +364,7 @@ def local(m, state, offset, hour):
         m_of_day = m % 1440
         on = (False, m_of_day < 60 * (hour - 1) - offset, m_of_day >= 60 * hour - offset, True)[state]
         answer = (0, *shown(date_of(m + offset + 60 * on)))
+    told("local date", answer[0])
     case("t", f"minute {m}, state {state}, offset {offset}, hour {hour}:", spaced(*answer))
 
 
@@ -390,7 +412,7 @@ def month_end(month, sign):
 def written(plan, first, count, space):
     refusal, bits = write(plan, first, count, space)
     out = bits + [7] * (124 - len(bits))
-    case("w", f"{plan_text(plan)} writes {first} {count} in {space}:", spaced(refusal, len(bits), digits(out)))
+    case("w", f"{plan_text(plan)} writes {first} {count} in {space}:", spaced(told("writing", refusal), len(bits), digits(out)))
 
 
 def carried(plan, first, count):
@@ -401,7 +423,7 @@ def carried(plan, first, count):
 def long(plan, first, count):
     bits = write(plan, first, count, 65536)[1]
     n, used, refusal, _ = read_recording(bits, [0] * 12000, 12000)
-    case("l", f"{plan_text(plan)} sends {first} {count}", f" {len(bits)}:" + spaced(n, used, refusal))
+    case("l", f"{plan_text(plan)} sends {first} {count}", f" {len(bits)}:" + spaced(n, used, told("later frame", refusal)))
 
 
 def edited(plan, m, at, value, n):
@@ -417,7 +439,7 @@ def joined(plan, m, other, k):
 
 
 def damaged(bits, question):
-    """A frame of 60 bits in which the question, 7 to 13, gets a no."""
+    """A frame of 60 bits in which the question, 7 to 11 or 13, gets a no."""
     bits = list(bits)
     if question == 7:
         bits[29] = 2
@@ -433,9 +455,6 @@ def damaged(bits, question):
             bits[at] = int(b)
         bits[19] = (LAST + 1) % 2
         bits[29] = bits[39] = 0
-    elif question == 12:
-        bits[45] ^= 1
-        bits[46] ^= 1
     elif question == 13:
         bits[59] = 1
     else:
@@ -454,6 +473,33 @@ def third(question, also, m, n, space):
     last = damaged(damaged(frame(USUAL, m), question), also)
     bits = frame(USUAL, JULY_4) + frame(USUAL, JULY_4 + 1) + last
     recording(f"third frame, no to {question} {also}, bytes {n} space {space}", bits, n, space)
+
+
+def received(plan, m, place, free):
+    """A frame with a place of its time word inverted, or none for 0, and with bits 19, 29 and 39 as given; and its entry as
+    sent, by plan, minute and inversion, the echo byte alone by bit 19."""
+    bits = frame(plan, m)
+    if place:
+        bits[PLACE_BITS[place - 1]] ^= 1
+    bits[19], bits[29], bits[39] = free
+    length, dst, leap, row = facts(plan, m)
+    return bits, [*m.to_bytes(4, "big"), length, int(dst, 2), leap, row, plan[5], place, int(free[0] == m % 2), 0]
+
+
+def heard(plan, m, place, free):
+    bits, entry = received(plan, m, place, free)
+    assert read_one(bits, [], 12) == (0, entry)
+    one(f"{plan_text(plan)} sends {m}, place {place}, bits 19 29 39{spaced(*free)}", bits, len(bits), 12)
+
+
+def all_heard(plan, m, places, frees):
+    """Frames of minutes from m on, heard as a recording."""
+    frames = [received(plan, m + k, place, free) for k, (place, free) in enumerate(zip(places, frees))]
+    bits = [b for f, _ in frames for b in f]
+    entries = [b for _, e in frames for b in e]
+    assert read_recording(bits, [], len(entries)) == (len(frames), len(bits), 0, entries)
+    label = f"{plan_text(plan)} sends {m}, places{spaced(*places)}, bits 19 29 39{spaced(*map(digits, frees))}"
+    recording(label, bits, len(bits), len(entries))
 
 
 def listed(name, text, alone=False, space=LISTING_SPACE):
@@ -476,7 +522,7 @@ def tables():
         sent(USUAL, m)
     sent(LONG, 6_573_600)
     sent(SHORT, 6_573_600)
-    for pair in ((99, 99), (46, 99), (46, 45), (45, 44), (19, 99)):
+    for pair in ((99, 99), (46, 99), (46, 45), (45, 44), (19, 99), (46, 19)):
         zero(*pair)
     for w in range(32):
         word = f"{w:05b}"
@@ -595,16 +641,17 @@ def writings():
 
 def refused_readings():
     handed = lambda q, n, space: (n - 2 if q == 6 else n, space - 1 if q == 5 else space)
-    for q in range(5, 14):
+    questions = (5, 6, 7, 8, 9, 10, 11, 13)
+    for q in questions:
         first(q, 0, *handed(q, 60, 12))
-    for q in range(5, 13):
-        first(q, q + 1, 58 if q < 7 else 60, 11 if q == 5 else 12)
-    for q in range(5, 14):
+    for q, also in zip(questions, questions[1:]):
+        first(q, also, 58 if q < 7 else 60, 11 if q == 5 else 12)
+    for q in questions:
         third(q, 0, JULY_4 + 2, *handed(q, 180, 36))
     third(14, 0, JULY_4 + 3, 180, 36)
     third(14, 0, JULY_4 + 1, 180, 36)
-    for q in range(5, 13):
-        third(q, q + 1, JULY_4 + 2, 178 if q < 7 else 180, 35 if q == 5 else 36)
+    for q, also in zip(questions, questions[1:]):
+        third(q, also, JULY_4 + 2, 178 if q < 7 else 180, 35 if q == 5 else 36)
     third(13, 14, JULY_4 + 3, 180, 36)
     for n, space in ((180, 36), (120, 24), (121, 24), (121, 36), (179, 36)):
         third(0, 0, JULY_4 + 2, n, space)
@@ -614,6 +661,38 @@ def refused_readings():
     recording("no bits and no space", [], 0, 0)
     recording("one bit", [0], 1, 12)
     recording("one bit and no space", [0], 1, 11)
+
+
+def echoes():
+    """Wrong echoes beside a repaired place, and bits 29 and 39: the entries are those sent."""
+    will = lambda n: (n & 1, n >> 1 & 1, n >> 2 & 1)
+    for place in range(32):
+        for b in (0, 1):
+            heard(USUAL, JULY_4 + 1, place, (b, place % 2, place // 2 % 2))
+    for n in range(8):
+        heard(USUAL, 0, 31, will(n))
+    for plan, m in ((LONG, 6_573_599), (SHORT, 6_573_599), (USUAL, LAST)):
+        for place in (1, 17, 31):
+            for b in (0, 1):
+                heard(plan, m, place, (b, 1, b))
+    # three places a recording, with each echo wrong, and with every other
+    for k in range(1, 32, 3):
+        places = [(k + i - 1) % 31 + 1 for i in range(3)]
+        all_heard(USUAL, JULY_4, places, [((JULY_4 + i + 1) % 2, (k + i) % 2, (k + i) // 2 % 2) for i in range(3)])
+        all_heard(USUAL, JULY_4 + 1, places[::-1], [will(k + 2 * i) for i in range(3)])
+    for plan in (USUAL, LONG, SHORT):
+        for n in range(2):
+            all_heard(plan, 6_573_598, (31, 31 - n, 17 * n), [will(n + 2 * i) for i in range(3)])
+    # an echo that agrees with time[0] as received and not as repaired; two places taken for another minute
+    before = frame(USUAL, JULY_4) + frame(USUAL, JULY_4 + 1)
+    for at in ((46, 19), (46, 45), (46, 45, 19)):
+        recording(f"third frame, inverted{spaced(*at)}", before + inverted(frame(USUAL, JULY_4 + 2), *at), 180, 36)
+    # other questions, of a frame with a place repaired and a wrong echo
+    for q, m in ((11, JULY_4 + 2), (13, JULY_4 + 2), (14, JULY_4 + 3)):
+        bits = inverted(damaged(frame(USUAL, m), q), 19, 36)
+        if q < 14:
+            one(f"one frame, no to {q}, inverted 19 36", bits, 60, 12)
+        recording(f"third frame, no to {q}, inverted 19 36", before + bits, 180, 36)
 
 
 EXAMPLE_LINE = "0 10 37 0 0 0 6578970 1"
@@ -716,7 +795,9 @@ def main():
     local_lines()
     writings()
     refused_readings()
+    echoes()
     listings()
+    assert GIVEN == NUMBERS
     text = "\n".join(LINES) + "\n"
     if sys.argv[1:] == ["--write"]:
         folder = pathlib.Path(__file__).resolve().parent.parent / "crates" / "vectors"
