@@ -173,7 +173,8 @@ fn read_fields(frame: &[u8], alone: bool, word: u64, state: State) -> FrameAnswe
     let RowAnswer::Assigned(row) = found else {
         return FrameAnswer::Refused(Refusal::NextWord);
     };
-    let time = timeword::decode(layout::time_word(word));
+    let received = layout::time_word(word);
+    let time = timeword::decode(received);
     let minute = time.minute;
     let place = time.place;
     if Date::MINUTES <= minute {
