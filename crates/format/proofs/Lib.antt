@@ -6,6 +6,7 @@ pub mod Accepted
 pub mod Inverting
 pub mod RoundTrip
 pub mod Unread
+pub mod Echo
 pub mod One
 pub mod Chain
 pub mod Refusals

@@ -19,7 +19,7 @@ use Rattle.format.specs.Frame.{Sent, sync, body, bodyOf, frame, wordIn, 
 use Rattle.format.specs.Inverting.{flip, invertAt, from, timeNumbers, timeBits, framePlaces, inverted, withUnread}
 use Rattle.format.specs.Reading.{entry, enough, entryOf, readFrame}
 use Rattle.format.specs.Entry.{sentEntry}
-use Rattle.format.specs.Received.{Reception, isReception, received, receivedEntry, onlyPlace}
+use Rattle.format.specs.Received.{Reception, isReception, received, withEcho, receivedEntry, onlyPlace}
 use Rattle.format.proofs.Legal.{Legal, long}
 use Rattle.format.proofs.Sending.{bodyOf-binary}
 use Rattle.format.proofs.Inverting.{read-inverted, bits-invert, length-invert}
@@ -124,7 +124,7 @@ module _ (s : Sent) (r : Reception) (rest : List ℕ) where
         rw (next-heard, number-bits 6 (getD nextWords (s .row) 0)) (mod-eq-of-lt (next-word-lt (s .row) (r .0) (r .1)))
 
     entry-heard : Bits r → entryOf heard ≡ receivedEntry s r
-    unfolding entryOf receivedEntry sentEntry
+    unfolding entryOf receivedEntry withEcho sentEntry
     entry-heard b =
         let k = 4 * s .leap + s .daylight in
         let w : reading (wordIn heard) ≡ record { minute = s .minute; place = r .place } =
@@ -144,7 +144,7 @@ module _ (s : Sent) (r : Reception) (rest : List ℕ) where
         )
 
     trip : (one : Bool) → Bits r → enough one (s .seconds) (length heard) ≡ true → readFrame one heard ≡ entry (receivedEntry s r)
-    unfolding receivedEntry sentEntry
+    unfolding receivedEntry withEcho sentEntry
     trip one b fits =
         let k : stateOf (number (stateIn heard)) < 12 = rw state-is (omega (arith, l .leap-ok, l .daylight-ok)) in
         yes-9 one heard (omega (arith, length-heard)) (bits-heard b (l .notice-ok)) sync-heard k
@@ -170,7 +170,7 @@ unfolding received withUnread onlyPlace inverted frame bodyOf body sync framePla
 only-place s i = refl
 
 pub only-place-entry : (s : Sent) (i : ℕ) → receivedEntry s (onlyPlace (s .minute) i) ≡ sentEntry s i
-unfolding receivedEntry onlyPlace sentEntry
+unfolding receivedEntry withEcho onlyPlace sentEntry
 only-place-entry s i = rw (eq-eqb (s .minute % 2) (s .minute % 2) refl)
 
 pub only-place-bits : (m i : ℕ) → i ≤ 31 → Bits (onlyPlace m i)

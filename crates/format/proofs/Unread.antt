@@ -20,12 +20,12 @@ use Rattle.format.proofs.Questions.{word-front, state-front, next-front
 use Rattle.format.proofs.Accepted.{accepted, entry-only, seconds-59}
 
 -- the list of g 0 to g (n - 1)
-unfoldable tabulate : ℕ → (ℕ → ℕ) → List ℕ
+unfoldable pub tabulate : ℕ → (ℕ → ℕ) → List ℕ
 tabulate zero g = []
 tabulate (suc n) g = g 0 ∷ tabulate n (λ k. g (suc k))
 
 -- a list by its first n elements and the rest
-split : (n : ℕ) (l : List ℕ) → n ≤ length l → tabulate n (λ k. getD l k 0) ++ drop n l ≡ l
+pub split : (n : ℕ) (l : List ℕ) → n ≤ length l → tabulate n (λ k. getD l k 0) ++ drop n l ≡ l
 unfolding tabulate
 split zero l h = refl
 split (suc n) [] h = absurd (omega arith)
