@@ -1,10 +1,8 @@
-// One frame: its bits from its fields, writing it, reading it, and its entry.
-mod layout;
-
+// One frame: writing it and reading it.
 ghost use mathlib.Core.Path.{_≡_};
 ghost use mathlib.Core.Bool.{true, _&&_};
 ghost use mathlib.Core.List.{_++_};
-ghost use Prim.Native.Nat.{_+_, _-_, _*_, _/_, _%_, _≤_, _<_};
+ghost use Prim.Native.Nat.{_-_, _/_, _≤_, _<_};
 ghost use lib.ListN.{length, take, drop};
 ghost use Rattle.bits.specs.Bits.{bits, number, pick, isZero, all};
 ghost use Rattle.calendar.specs.Calendar.{dayCount, minuteCount, lastOfMonth};
@@ -12,9 +10,8 @@ ghost use Rattle.codewords.specs.CodeWords.{leapNumber, stateNumber, stateOf};
 ghost use Rattle.plan.specs.Plan.{legalPlan, lengthAt};
 ghost use Rattle.format.specs.Frame.{sentBy, frame, stateIn};
 ghost use Rattle.format.specs.Sending.{dayWord};
-ghost use Rattle.format.specs.Entry.{entryBytes};
-ghost use Rattle.format.specs.Reading.{secondsFor, enough, entryOf, askFields, readFrame, readOne};
-ghost use Rattle.frame.specs.Answer.{refusalNumber, entryFrom, frameNumbers, endNumber, endOutcome};
+ghost use Rattle.format.specs.Reading.{secondsFor, enough, entryOf, askFields, readFrame};
+ghost use Rattle.frame.specs.Answer.{refusalNumber, frameNumbers};
 use bits::Gathered;
 use calendar::Date;
 use codewords::LeapState;
@@ -52,12 +49,6 @@ pub enum FrameAnswer {
     Refused(Refusal),
 }
 
-// How a reading ended.
-pub enum End {
-    Complete,
-    Refused(Refusal),
-}
-
 impl Refusal {
     // The number of the question.
     pub fn number(self) -> u32
@@ -76,21 +67,6 @@ impl Refusal {
         }
     }
 }
-
-impl End {
-    // The refusal's number, or 0.
-    pub fn number(self) -> u32
-        ensures { λ r. ⌜ r ≡ endNumber self ⌝ }
-    {
-        match self {
-            End::Complete => 0,
-            End::Refused(refusal) => refusal.number(),
-        }
-    }
-}
-
-// The bytes of an entry.
-pub const ENTRY_SIZE: usize = 12;
 
 // The bits of every frame but 59 and 60.
 const BODY: usize = 59;
@@ -216,49 +192,5 @@ pub fn read_frame(frame: &[u8], alone: bool) -> FrameAnswer
     match answer {
         StateAnswer::Legal(state) => read_fields(frame, alone, word, state),
         StateAnswer::Illegal => FrameAnswer::Refused(Refusal::StateWord),
-    }
-}
-
-// Writes an entry to the front of out.
-pub fn put_entry(state: State, fields: Fields, out: &mut [u8])
-    requires { ⌜ 12 ≤ length (now out) ⌝ }
-    ensures { λ r. ⌜ now (out .exit) ≡ entryBytes (entryFrom state fields) ++ drop 12 (now (out .entry)) ⌝ }
-{
-    let minute = fields.minute;
-    let daylight = state.daylight;
-    let daylight = codewords::daylight_number(daylight);
-    let leap = state.leap;
-    let leap = codewords::leap_number(leap);
-    let entry: [u8; ENTRY_SIZE] = [
-        (minute / 0x100_0000 % 256) as u8,
-        (minute / 0x1_0000 % 256) as u8,
-        (minute / 0x100 % 256) as u8,
-        (minute % 256) as u8,
-        fields.length,
-        daylight,
-        leap,
-        fields.row,
-        fields.notice,
-        fields.place,
-        fields.echo,
-        0,
-    ];
-    bytes::copy(&entry, out);
-}
-
-// Reads one frame alone into an entry of 12 bytes.
-pub fn read_one(bits: &[u8], entry: &mut [u8]) -> End
-    ensures { λ r. ⌜ endOutcome r (now (entry .exit)) ≡ readOne (now (entry .entry)) (now (bits .entry)) ⌝ }
-{
-    if entry.len() < ENTRY_SIZE {
-        return End::Refused(Refusal::EntrySpace);
-    }
-    let answer = read_frame(bits, true);
-    match answer {
-        FrameAnswer::Refused(refusal) => End::Refused(refusal),
-        FrameAnswer::Read(state, fields) => {
-            put_entry(state, fields, entry);
-            End::Complete
-        }
     }
 }

@@ -1,20 +1,15 @@
-// Recordings: many frames, written and read one behind the other.
+// Recordings written: many frames, one behind the other.
 ghost use mathlib.Core.Path.{_≡_};
 ghost use mathlib.Core.Bool.{true};
 ghost use mathlib.Core.List.{_++_};
-ghost use Prim.Native.Nat.{_+_, _*_, _≤_, _<_};
+ghost use Prim.Native.Nat.{_+_, _≤_};
 ghost use lib.ListN.{length, drop};
 ghost use Rattle.calendar.specs.Calendar.{minuteCount};
 ghost use Rattle.plan.specs.Plan.{legalPlan};
 ghost use Rattle.sequence.specs.Writing.{recording, seconds, writeResult, bufferWritten};
-ghost use Rattle.sequence.specs.Reading.{follows, readInto};
-ghost use Rattle.recording.specs.Answer.{writeRefusalNumber, writeNumbers, summaryOutcome};
+ghost use Rattle.recording.specs.Answer.{writeRefusalNumber, writeNumbers};
 use calendar::Date;
-use frame::End;
-use frame::FrameAnswer;
-use frame::Refusal;
 use plan::Plan;
-use sequence::Due;
 
 // The question that writing got a no to, numbers 1 to 4.
 pub enum WriteRefusal {
@@ -28,13 +23,6 @@ pub enum WriteRefusal {
 pub enum WriteAnswer {
     Written(usize),
     Refused(WriteRefusal),
-}
-
-// The entries written, the bits that they took, and the end.
-pub struct Summary {
-    pub entries: usize,
-    pub used: usize,
-    pub end: End,
 }
 
 impl WriteRefusal {
@@ -110,62 +98,4 @@ pub fn write_recording(plan: Plan, first: u32, count: u32, out: &mut [u8]) -> Wr
     }
     write_frames(plan, first, count, out);
     WriteAnswer::Written(needed)
-}
-
-// Question 14.
-fn is_due(due: Due, minute: u32) -> bool
-    ensures { λ r. ⌜ r ≡ follows due minute ⌝ }
-{
-    match due {
-        Due::Any => true,
-        Due::Minute(m) => minute == m,
-    }
-}
-
-// Reads a recording into entries of 12 bytes each.
-pub fn read_recording(bits: &[u8], entries: &mut [u8]) -> Summary
-    ensures { λ r. ⌜ summaryOutcome r (now (entries .exit)) ≡ readInto (now (entries .entry)) (now (bits .entry)) ⌝ }
-{
-    let mut used: usize = 0;
-    let mut count: usize = 0;
-    let mut due = Due::Any;
-    while used < bits.len() {
-        let from = count * frame::ENTRY_SIZE;
-        if entries.len() - from < frame::ENTRY_SIZE {
-            return Summary {
-                entries: count,
-                used,
-                end: End::Refused(Refusal::EntrySpace),
-            };
-        }
-        let answer = frame::read_frame(&bits[used..], false);
-        match answer {
-            FrameAnswer::Refused(refusal) => {
-                return Summary {
-                    entries: count,
-                    used,
-                    end: End::Refused(refusal),
-                };
-            }
-            FrameAnswer::Read(state, fields) => {
-                let minute = fields.minute;
-                if !is_due(due, minute) {
-                    return Summary {
-                        entries: count,
-                        used,
-                        end: End::Refused(Refusal::Order),
-                    };
-                }
-                frame::put_entry(state, fields, &mut entries[from..]);
-                used += fields.length as usize;
-                count += 1;
-                due = Due::Minute(minute + 1);
-            }
-        }
-    }
-    Summary {
-        entries: count,
-        used,
-        end: End::Complete,
-    }
 }

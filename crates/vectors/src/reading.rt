@@ -27,10 +27,10 @@ fn read_front(alone: bool, bits: &[u8], entries: &mut [u8], space: usize) {
         return;
     }
     if alone {
-        let end = frame::read_one(bits, &mut entries[0..space]);
+        let end = entries::read_one(bits, &mut entries[0..space]);
         show::value(end.number());
     } else {
-        let answer = recording::read_recording(bits, &mut entries[0..space]);
+        let answer = entries::read_recording(bits, &mut entries[0..space]);
         let end = answer.end;
         show::size(answer.entries);
         show::size(answer.used);
@@ -76,7 +76,7 @@ pub fn given(letter: u8, text: &[u8], digits: &[u8], n: usize) {
 pub fn facts(bits: &[u8], n: usize) {
     let mut entry = [7u8; 12];
     if n <= bits.len() {
-        frame::read_one(&bits[0..n], &mut entry);
+        entries::read_one(&bits[0..n], &mut entry);
         show::facts(&entry);
     }
 }

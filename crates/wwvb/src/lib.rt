@@ -174,7 +174,7 @@ pub extern "C" fn wwvb_write_recording(
 pub extern "C" fn wwvb_read_frame(bits: &[u8], entry: &mut [u8]) -> u32
     ensures { λ r. ⌜ oneReply r (now (entry .exit)) ≡ readOne (now (entry .entry)) (now (bits .entry)) ⌝ }
 {
-    let end = frame::read_one(bits, entry);
+    let end = entries::read_one(bits, entry);
     end.number()
 }
 
@@ -183,7 +183,7 @@ pub extern "C" fn wwvb_read_frame(bits: &[u8], entry: &mut [u8]) -> u32
 pub extern "C" fn wwvb_read_recording(bits: &[u8], entries: &mut [u8]) -> ReadReply
     ensures { λ r. ⌜ readReply r (now (entries .exit)) ≡ readInto (now (entries .entry)) (now (bits .entry)) ⌝ }
 {
-    let summary = recording::read_recording(bits, entries);
+    let summary = entries::read_recording(bits, entries);
     let end = summary.end;
     let refusal = end.number() as usize;
     ReadReply {

@@ -1,4 +1,4 @@
--- `wwvb::wwvb_read_frame` meets its contract: that of `frame::read_one`, its end as a number.
+-- `wwvb::wwvb_read_frame` meets its contract: that of `entries::read_one`, its end as a number.
 -- Assumes nothing.
 use Prim.Native.Nat.{ℕ}
 use mathlib.Core.Path.{ap, _∙_}

@@ -1,11 +1,11 @@
--- `frame::read_one` meets its contract.
+-- `entries::read_one` meets its contract.
 -- Assumes nothing.
 use mathlib.Core.Path.{sym, ap, _∙_}
 use borrow.Author.Needs.{needs}
 use Rattle.frame.specs.Answer.{refusalNumber, entryFrom, frameNumbers}
 use Rattle.format.proofs.One.{one-no-space, one-refused, one-read}
-use Rattle.frame.proofs.read_one.Statement.{statement}
-use Rattle.frame.proofs.read_one.Tie as tie
+use Rattle.entries.proofs.read_one.Statement.{statement}
+use Rattle.entries.proofs.read_one.Tie as tie
 
 returns : tie.Need-returns
 returns c = let a = c .before .before .before .args in

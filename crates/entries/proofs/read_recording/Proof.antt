@@ -1,4 +1,4 @@
--- `recording::read_recording` meets its contract.
+-- `entries::read_recording` meets its contract.
 -- Assumes nothing.
 use Prim.Native.Nat.{ℕ, suc, _+_, _-_, _*_, _/_, _≤_, _<_}
 use mathlib.Core.Path.{_≡_, refl, sym, ap, _∙_}
@@ -18,9 +18,9 @@ use Rattle.sequence.specs.declared.Due.the-variants.{Minute}
 use Rattle.sequence.proofs.Resume.{resume, resume-none, resume-stop}
 use Rattle.sequence.proofs.Steps.{ended, no-space, frame-refused, out-of-order}
 use Rattle.sequence.proofs.Tails.{tail}
-use Rattle.recording.proofs.Turn.{turn, put-length}
-use Rattle.recording.proofs.read_recording.Statement.{statement}
-use Rattle.recording.proofs.read_recording.Tie as tie
+use Rattle.entries.proofs.Turn.{turn, put-length}
+use Rattle.entries.proofs.read_recording.Statement.{statement}
+use Rattle.entries.proofs.read_recording.Tie as tie
 
 abbrev Inv-loop : tie.InvT-loop
 Inv-loop bits entries₀ used₀ count₀ due₀ entries used count due = (used ≤ length bits) × (count * 12 ≤ length entries₀) × (length entries ≡ length entries₀) × (resume count used entries (readFrames (length entries₀ / 12 - count) due (drop used bits)) ≡ readInto entries₀ bits)
