@@ -40,10 +40,10 @@ impl End {
 }
 
 // The bytes of an entry.
-pub const ENTRY_SIZE: usize = 12;
+const ENTRY_SIZE: usize = 12;
 
 // Writes an entry to the front of out.
-pub fn put_entry(state: State, fields: Fields, out: &mut [u8])
+fn put_entry(state: State, fields: Fields, out: &mut [u8])
     requires { ⌜ 12 ≤ length (now out) ⌝ }
     ensures { λ r. ⌜ now (out .exit) ≡ entryBytes (entryFrom state fields) ++ drop 12 (now (out .entry)) ⌝ }
 {
