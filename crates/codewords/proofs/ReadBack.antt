@@ -55,6 +55,10 @@ number-back s =
     let r : stateNumber s % 4 ≡ daylightNumber (s .daylight) = omega (arith, daylight-lt (s .daylight)) in
     rw (q, r, daylight-back (s .daylight), leap-back (s .leap))
 
+-- states with one number are one state
+pub same-state : (s t : State) → stateNumber s ≡ stateNumber t → s ≡ t
+same-state s t e = sym (number-back s) ∙ ap stateAt e ∙ number-back t
+
 numbers-pass : T (upto (λ k. eqb (stateNumber (stateAt k)) k) 12)
 unfolding stateAt daylightAt leapAt
 numbers-pass = tt
@@ -71,10 +75,10 @@ states-read-back s = (back, only)
     back = state-back (stateNumber s) (state-lt s)
 
     only : (a : StateAnswer) → stateAnswer a ≡ stateOf (stateWord s) → a ≡ Legal s
-    only (Legal r) e = ap Legal (sym (number-back r) ∙ ap stateAt (e ∙ back) ∙ number-back s)
+    only (Legal r) e = ap Legal (same-state r s (e ∙ back))
     only Illegal e = absurd (omega (arith, back, state-lt s))
 
-is-false : (b : Bool) → (T b → ⊥) → b ≡ false
+pub is-false : (b : Bool) → (T b → ⊥) → b ≡ false
 is-false true h = absurd (h tt)
 is-false false h = refl
 

@@ -2,10 +2,11 @@
 -- Assumes nothing.
 use Prim.Native.Nat.{ℕ, zero, suc, _+_, _/_, _≤_, _<_}
 use mathlib.Core.Bool.{Bool, not, _&&_}
+use mathlib.Core.Logic.{_≢_}
 use mathlib.Core.Path.{_≡_}
 use lib.Dec.{T, ltb, eqb}
 use lib.ListN.{getD}
-use Rattle.bits.specs.Bits.{pick}
+use Rattle.bits.specs.Bits.{pick, bits, number, distance, invertBit}
 use Rattle.codewords.specs.CodeWords.{daylightNumber, stateNumber, illegal, stateWords, stateOf, stateAnswer, unassigned, nextWords, rowFits, rowOf, rowAmong, rowAnswer}
 use Rattle.codewords.specs.declared.State.{State}
 use Rattle.codewords.specs.declared.DaylightState.{DaylightState}
@@ -74,3 +75,25 @@ ThirtySevenUnassigned =
 -- of the words of six bits, row 1's is the one that rows 25 to 48 have and rows 2 to 24 lack
 abbrev pub RowOne : Type 0
 RowOne = (v : ℕ) → v < 64 → (ltb (rowAmong 25 49 v) 49 && not (ltb (rowAmong 2 25 v) 25)) ≡ eqb v (nextWord 1)
+
+-- ---- one inverted bit (document 02, 3)
+
+-- the words of different states differ in at least two places
+abbrev pub StatesTwoApart : Type 0
+StatesTwoApart = (s t : State) → s ≢ t → 2 ≤ distance (bits 5 (stateWord s)) (bits 5 (stateWord t))
+
+-- so do the words of different rows that are read with one daylight state
+abbrev pub RowsTwoApart : Type 0
+RowsTwoApart =
+    (s : DaylightState) (q r : ℕ) → T (rowFits (daylightNumber s) q) → T (rowFits (daylightNumber s) r) → q ≢ r
+    → 2 ≤ distance (bits 6 (nextWord q)) (bits 6 (nextWord r))
+
+-- so a state word with one of its five bits inverted is illegal
+abbrev pub InvertedIllegal : Type 0
+InvertedIllegal = (s : State) (i : ℕ) → i < 5 → stateOf (number (invertBit i (bits 5 (stateWord s)))) ≡ illegal
+
+-- and a row's word with one of its six bits inverted is unassigned, read with a daylight state of the row
+abbrev pub InvertedUnassigned : Type 0
+InvertedUnassigned =
+    (s : DaylightState) (r i : ℕ) → T (rowFits (daylightNumber s) r) → i < 6
+    → rowOf (daylightNumber s) (number (invertBit i (bits 6 (nextWord r)))) ≡ unassigned

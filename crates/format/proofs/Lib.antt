@@ -10,3 +10,4 @@ pub mod Echo
 pub mod One
 pub mod Chain
 pub mod Refusals
+pub mod OneBit

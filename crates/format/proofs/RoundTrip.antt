@@ -61,6 +61,12 @@ reception-bits r h =
       bit39-ok = tail-true (isBit (r .bit29)) (isBit (r .bit39)) b;
     }
 
+-- the state word sent is read as the state
+pub state-read : (s : Sent) → Legal s → stateOf (number (bits 5 (getD stateWords (4 * s .leap + s .daylight) 0))) ≡ 4 * s .leap + s .daylight
+state-read s l =
+    let k : 4 * s .leap + s .daylight < 12 = omega (arith, l .leap-ok, l .daylight-ok) in
+    rw (number-bits 5 (getD stateWords (4 * s .leap + s .daylight) 0), mod-eq-of-lt (state-word-lt (4 * s .leap + s .daylight) k)) (state-back (4 * s .leap + s .daylight) k)
+
 module _ (s : Sent) (r : Reception) (rest : List ℕ) where
   pub heard : List ℕ
   unfolding received withUnread inverted frame bodyOf body sync framePlaces invertAt flip from codeWord parities bits
@@ -114,9 +120,7 @@ module _ (s : Sent) (r : Reception) (rest : List ℕ) where
 
   module _ (l : Legal s) where
     state-is : stateOf (number (stateIn heard)) ≡ 4 * s .leap + s .daylight
-    state-is =
-        let k : 4 * s .leap + s .daylight < 12 = omega (arith, l .leap-ok, l .daylight-ok) in
-        rw (state-heard, number-bits 5 (getD stateWords (4 * s .leap + s .daylight) 0), mod-eq-of-lt (state-word-lt (4 * s .leap + s .daylight) k)) (state-back (4 * s .leap + s .daylight) k)
+    state-is = rw state-heard (state-read s l)
 
     next-is : number (nextIn heard) ≡ getD nextWords (s .row) 0
     next-is =

@@ -62,7 +62,7 @@ module _ (x y : ℕ) (hx : isBit x ≡ true) (hy : isBit y ≡ true) where
       go g r = unfold withUnread entryOf wordIn stateIn nextIn tabulate in refl
 
 -- an entry comes from the first 59 bits
-entry-front : (f : List ℕ) → entryOf (take 59 f) ≡ entryOf f
+pub entry-front : (f : List ℕ) → entryOf (take 59 f) ≡ entryOf f
 unfolding entryOf
 entry-front f = rw (word-front f, state-front f, next-front f, getD-take 59 f 49 0 (omega arith), getD-take 59 f 19 0 (omega arith))
 

@@ -5,3 +5,4 @@ pub mod Received
 pub mod Reading
 pub mod Refusals
 pub mod Sending
+pub mod OneBit
