@@ -234,7 +234,7 @@ static void try_write(const struct ref_plan *p, uint32_t first, uint32_t n, size
         lengths[WRITE][bits]++;
 }
 
-static void try_one(const uint8_t *bits, size_t length, size_t space)
+static unsigned try_one(const uint8_t *bits, size_t length, size_t space)
 {
     unsigned refusal;
     uint32_t r;
@@ -250,6 +250,7 @@ static void try_one(const uint8_t *bits, size_t length, size_t space)
     check(ONE, &out_buffer, "the entry buffer");
     if (r == 0)
         lengths[ONE][length]++;
+    return refusal;
 }
 
 static void try_read(const uint8_t *bits, size_t length, size_t space)
@@ -807,6 +808,55 @@ static void boundary_echoes(void)
         }
 }
 
+/* What document 02, 3, says of the frame of a minute with bit k inverted: the number, and with 0 the entry. */
+static unsigned inverted_answer(const struct ref_plan *p, uint32_t minute, unsigned k, uint8_t *entry)
+{
+    unsigned place;
+
+    ref_entry_as_sent(p, minute, 0, k != 19, entry);
+    for (place = 1; place <= 31; place++)
+        if (ref_bit_of_place(place) == k)
+            entry[WWVB_ENTRY_PLACE] = (uint8_t)place;
+    if (k == 49)
+        entry[WWVB_ENTRY_NOTICE] ^= 1;
+    return k < 13 ? 8 : k < 47 || k == 49 ? 0 : k < 53 ? 9 : k < 59 ? 10 : 13;
+}
+
+/* Each bit of a frame that the library writes inverted, and the frame read alone: the last minute of each month in 59 and in 61 bits, and as many minutes in 60. */
+static void boundary_inversions(void)
+{
+    uint8_t bits[WWVB_MAX_FRAME], entry[WWVB_ENTRY_SIZE];
+    unsigned long frames[3] = {0, 0, 0};
+    uint32_t month;
+    int32_t sign;
+    unsigned k;
+
+    for (month = 0; month < 1200; month++)
+        for (sign = -1; sign <= 1; sign++) {
+            struct ref_plan p = random_plan();
+            uint32_t minute = sign ? month_end(month) : below(MINUTES);
+            wwvb_write_reply w;
+            size_t length;
+            p.leap_sign = sign;
+            p.leap_month = sign ? month : 0;
+            w = wwvb_write_recording(p.kind, p.spring, p.autumn, p.leap_month, p.leap_sign, p.notice, minute, 1, bits, sizeof bits);
+            if (w.refusal != 0)
+                fail(WRITE, "the number for a legal plan");
+            length = w.bits;
+            frames[length - 59]++;
+            for (k = 0; k < length; k++) {
+                unsigned number = inverted_answer(&p, minute, k, entry);
+                bits[k] ^= 1;
+                if (try_one(bits, length, WWVB_ENTRY_SIZE) != number)
+                    fail(ONE, "the number for an inverted bit");
+                if (number == 0 && memcmp(out_buffer.at, entry, WWVB_ENTRY_SIZE) != 0)
+                    fail(ONE, "the entry for an inverted bit");
+                bits[k] ^= 1;
+            }
+        }
+    printf("compare: each bit inverted in frames of 59:%lu 60:%lu 61:%lu bits\n", frames[0], frames[1], frames[2]);
+}
+
 static void boundary_recordings(void)
 {
     static uint8_t bits[ROOM];
@@ -982,6 +1032,7 @@ int main(int argc, char **argv)
         boundary_counts();
         boundary_frames();
         boundary_echoes();
+        boundary_inversions();
     }
     boundary_recordings();
     boundary = cases;

@@ -695,6 +695,25 @@ def echoes():
         recording(f"third frame, no to {q}, inverted 19 36", before + bits, 180, 36)
 
 
+def one_inverted(plan, m, k):
+    """A frame with bit k inverted, read alone. Document 02, 3, says the answer: a number, or the entry as sent but for the
+    place, the echo at bit 19 and the notice at bit 49."""
+    bits = inverted(frame(plan, m), k)
+    place = PLACE_BITS.index(k) + 1 if k in PLACE_BITS else 0
+    entry = received(plan, m, place, (m % 2 ^ (k == 19), 0, 0))[1]
+    entry[8] ^= k == 49
+    refusal = 8 if k < 13 else 9 if k in STATE_AT else 10 if k in NEXT_AT else 13 if k > 58 else 0
+    assert read_one(bits, [], 12) == (refusal, [] if refusal else entry)
+    one(f"{plan_text(plan)} sends {m}, inverted {k}", bits, len(bits), 12)
+
+
+def inversions():
+    """Each bit of frames of all three lengths."""
+    for plan, m in ((USUAL, JULY_4), (SHORT, 6_573_599), ((1, 0, 0, 1199, 1, 1), LAST)):
+        for k in range(len(frame(plan, m))):
+            one_inverted(plan, m, k)
+
+
 EXAMPLE_LINE = "0 10 37 0 0 0 6578970 1"
 
 LISTED = [
@@ -796,6 +815,7 @@ def main():
     writings()
     refused_readings()
     echoes()
+    inversions()
     listings()
     assert GIVEN == NUMBERS
     text = "\n".join(LINES) + "\n"
