@@ -141,6 +141,10 @@ wwvb_write_reply wwvb_write_recording(uint32_t kind, uint32_t spring, uint32_t a
  * After the call the first 12 bytes of `entry` are the frame's entry, and every byte behind them is as before; refused,
  * every byte of `entry` is as before. Bits 19, 29 and 39 may be 0 or 1: bit 19, the echo, changes the entry's echo byte
  * alone, and bits 29 and 39 change nothing.
+ * Of a frame that wwvb_write_recording writes any one bit may be inverted: in the time word (bits 13 to 18, 20 to 28, 30 to 38
+ * and 40 to 46) the entry is as sent, and its place byte tells the place; at 19, 29 or 39 as just said; at 49 the notice byte
+ * alone differs; in the sync word (0 to 12) the refusal is 8, in the state word (47, 48, 50 to 52) 9, in the next-change word
+ * (53 to 58) 10, and behind bit 58 it is 13.
  */
 uint32_t wwvb_read_frame(const uint8_t *bits, size_t bits_length, uint8_t *entry, size_t entry_length);
 

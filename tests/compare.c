@@ -822,7 +822,8 @@ static unsigned inverted_answer(const struct ref_plan *p, uint32_t minute, unsig
     return k < 13 ? 8 : k < 47 || k == 49 ? 0 : k < 53 ? 9 : k < 59 ? 10 : 13;
 }
 
-/* Each bit of a frame that the library writes inverted, and the frame read alone: the last minute of each month in 59 and in 61 bits, and as many minutes in 60. */
+/* Each bit of a frame that the library writes inverted, and the frame read alone: the last minute of each month in 59 and
+   in 61 bits, and as many minutes in 60. */
 static void boundary_inversions(void)
 {
     uint8_t bits[WWVB_MAX_FRAME], entry[WWVB_ENTRY_SIZE];
@@ -839,7 +840,8 @@ static void boundary_inversions(void)
             size_t length;
             p.leap_sign = sign;
             p.leap_month = sign ? month : 0;
-            w = wwvb_write_recording(p.kind, p.spring, p.autumn, p.leap_month, p.leap_sign, p.notice, minute, 1, bits, sizeof bits);
+            w = wwvb_write_recording(p.kind, p.spring, p.autumn, p.leap_month, p.leap_sign, p.notice, minute, 1, bits,
+                                     sizeof bits);
             if (w.refusal != 0)
                 fail(WRITE, "the number for a legal plan");
             length = w.bits;
