@@ -30,9 +30,10 @@ withNotice b e =
       echo = e .echo;
     }
 
--- what reading gives where bit k is inverted: "in the sync word the answer is 8" (bits 0 to 12); at 19 the entry as sent with echo 0; "in
--- the 31 bits or at 29 or 39" the entry as sent, with the place of the bit, which is 0 at 29 and 39; "at 49 only the notice differs"; "in the
--- state word 9" (47, 48 and 50 to 52), "in the next-change word 10" (53 to 58), "behind bit 58 it is 13"
+-- what reading gives where bit k is inverted: "in the sync word the answer is 8" (bits 0 to 12); "in the 31 bits or at 19, 29 or 39 all
+-- fields but repair and echo read as sent", with place 0 and echo 0 at 19, and else with the bit's place, which is 0 at 29 and 39, and
+-- echo 1; "at 49 only the notice differs"; "in the state word 9" (47, 48 and 50 to 52), "in the next-change word 10" (53 to 58),
+-- "behind bit 58 it is 13"
 unfoldable pub oneBitAnswer : Sent → ℕ → Answer
 oneBitAnswer s k =
     pick (ltb k 13) (refused 8)
