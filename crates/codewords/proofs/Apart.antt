@@ -1,14 +1,17 @@
 -- The words of each table are at least two places apart, and one with a bit inverted is none of them.
 -- Assumes nothing.
-use Prim.Native.Nat.{ℕ, _≤_, _<_}
+use Prim.Native.Nat.{ℕ, _*_, _/_, _≤_, _<_}
 use mathlib.Core.Bool.{Bool, true, false, not, _&&_, _||_}
 use mathlib.Core.Logic.{_≢_}
 use mathlib.Core.Path.{_≡_, refl, sym}
+use native.Mathlib.Decide.{decLt}
+use native.Mathlib.Omega.{arith}
 use lib.Dec.{T, leb, eqb, eqb→eq, leb→le}
 use lib.ListN.{getD}
+use borrow.Author.Tests.{lt-ltb, le-ltb, le-leb, lt-leb}
 use Rattle.bits.specs.Bits.{bit, bits, number, distance, invertBit}
 use Rattle.bits.proofs.Distance.{twoApart, two-apart}
-use Rattle.bits.proofs.Tests.{upto, upto-at, and-left, and-right, and-of}
+use Rattle.bits.proofs.Tests.{upto, upto-at, and-left, and-right}
 use Rattle.codewords.specs.CodeWords.{daylightNumber, stateNumber, illegal, stateWords, stateOf, unassigned, nextWords, rowFits, rowOf}
 use Rattle.codewords.specs.Theorems.{nextWord, StatesTwoApart, RowsTwoApart, InvertedIllegal, InvertedUnassigned}
 use Rattle.codewords.proofs.Search.{first-miss}
@@ -27,19 +30,30 @@ states-pass = tt
 states-apart : (j k : ℕ) → j < 12 → k < 12 → T (twoApart 5 word j k)
 states-apart j k hj hk = upto-at (twoApart 5 word j) 12 (upto-at (λ i. upto (twoApart 5 word i) 12) 12 states-pass j hj) k hk
 
--- two rows that are read with the daylight state d
-rowTest : ℕ → ℕ → ℕ → Bool
-rowTest d q r = not (rowFits d q && rowFits d r) || twoApart 6 nextWord q r
+-- the words of row q and of each row that is read with q where dst_on[1] is h
+rowTest : ℕ → ℕ → Bool
+rowTest h q = not (rowFits (2 * h) q) || upto (λ r. not (rowFits (2 * h) r) || twoApart 6 nextWord q r) 52
 
-rows-pass : T (upto (λ d. upto (λ q. upto (rowTest d q) 52) 52) 4)
+rows-pass : T (upto (λ h. upto (rowTest h) 52) 2)
 unfolding rowTest rowFits nextWords distance bits bit
 rows-pass = tt
 
+-- a row is read by dst_on[1] alone
+by-half : (d r : ℕ) → d < 4 → rowFits d r ≡ rowFits (2 * (d / 2)) r
+unfolding rowFits
+by-half d r h =
+    elim (decLt d 2) [
+      | yes l ↦ let e : d / 2 ≡ 0 = omega arith in rw (e, lt-ltb d 2 l, lt-leb 2 d l)
+      | no l ↦ let e : d / 2 ≡ 1 = omega arith in rw (e, le-ltb d 2 (omega arith), le-leb 2 d (omega arith))
+    ]
+
 rows-apart : (d q r : ℕ) → d < 4 → T (rowFits d q) → T (rowFits d r) → T (twoApart 6 nextWord q r)
 unfolding rowTest
-rows-apart d q r h s t =
-    implied (rowFits d q && rowFits d r) (twoApart 6 nextWord q r) (and-of (rowFits d q) (rowFits d r) s t)
-    (upto-at (rowTest d q) 52 (upto-at (λ p. upto (rowTest d p) 52) 52 (upto-at (λ e. upto (λ p. upto (rowTest e p) 52) 52) 4 rows-pass d h) q (row-small d q s .1)) r (row-small d r t .1))
+rows-apart d q r l s t =
+    let h = d / 2 in
+    let row = upto-at (rowTest h) 52 (upto-at (λ i. upto (rowTest i) 52) 2 rows-pass h (omega arith)) q (row-small d q s .1) in
+    implied (rowFits (2 * h) r) (twoApart 6 nextWord q r) (rw (by-half d r l) at t)
+    (upto-at (λ k. not (rowFits (2 * h) k) || twoApart 6 nextWord q k) 52 (implied (rowFits (2 * h) q) _ (rw (by-half d q l) at s) row) r (row-small d r t .1))
 
 -- ---- words with one bit inverted
 
