@@ -238,7 +238,7 @@ module _ (s : Sent) (l : Legal s) (k : ℕ) where
       let d : (4 * s .leap + s .daylight) % 4 ≡ s .daylight = omega (arith, l .daylight-ok) in
       let r : rowOf (s .daylight) (number (nextIn g)) ≡ 52 =
       rw (next-inside (frame s) k (omega (arith, length-sent s)) lo hi, next-sent s)
-      (row-inverted (s .daylight) (s .row) (k - 53) (omega (arith, l .daylight-ok)) (l .row-ok) (omega arith)) in
+      (row-inverted (s .daylight) (s .row) (k - 53) (l .row-ok) (omega arith)) in
       yes-9 true g q6 q7 (q8 (omega arith)) (rw is (omega (arith, l .leap-ok, l .daylight-ok)))
       ∙ no-10 true g (entryOf g) (rw (is, d, r) (omega arith))
 

@@ -14,7 +14,8 @@ use Rattle.bits.proofs.Bits.{number-bits}
 use Rattle.bits.proofs.Tests.{all-binary, and-true, head-true, tail-true}
 use Rattle.timeword.specs.TimeWord.{codeWord, parities, reading}
 use Rattle.codewords.specs.CodeWords.{stateWords, stateOf, nextWords}
-use Rattle.codewords.proofs.Tables.{state-back, state-word-lt, row-back, row-small, next-word-lt}
+use Rattle.codewords.proofs.RowList.{row-back}
+use Rattle.codewords.proofs.Tables.{state-back, state-word-lt, row-small, next-word-lt}
 use Rattle.format.specs.Frame.{Sent, sync, body, bodyOf, frame, wordIn, stateIn, nextIn}
 use Rattle.format.specs.Inverting.{flip, invertAt, from, timeNumbers, timeBits, framePlaces, inverted, withUnread}
 use Rattle.format.specs.Reading.{entry, enough, entryOf, readFrame}
@@ -143,7 +144,7 @@ module _ (s : Sent) (r : Reception) (rest : List ℕ) where
           notice-heard,
           q,
           d,
-          row-back (s .daylight) (s .row) (omega (arith, l .daylight-ok)) (l .row-ok),
+          row-back (s .daylight) (s .row) (l .row-ok),
           ← l .seconds-ok,
         )
 
