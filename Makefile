@@ -6,7 +6,7 @@
 # make clean      removes target/
 # Nothing is fetched.
 
-VERSION = 0.3.0
+VERSION = 0.3.1
 PREFIX = /usr/local
 override PREFIX := $(abspath $(PREFIX))
 INCLUDEDIR = $(PREFIX)/include
