@@ -1,14 +1,11 @@
 -- The words of each table are at least two places apart, and one with a bit inverted is none of them.
 -- Assumes nothing.
-use Prim.Native.Nat.{ℕ, _*_, _/_, _≤_, _<_}
-use mathlib.Core.Bool.{Bool, true, false, not, _&&_, _||_}
+use Prim.Native.Nat.{ℕ, _≤_, _<_}
+use mathlib.Core.Bool.{_&&_}
 use mathlib.Core.Logic.{_≢_}
-use mathlib.Core.Path.{_≡_, refl, sym}
-use native.Mathlib.Decide.{decLt}
-use native.Mathlib.Omega.{arith}
+use mathlib.Core.Path.{_≡_, sym}
 use lib.Dec.{T, leb, eqb, eqb→eq, leb→le}
 use lib.ListN.{getD}
-use borrow.Author.Tests.{lt-ltb, le-ltb, le-leb, lt-leb}
 use Rattle.bits.specs.Bits.{bit, bits, number, distance, invertBit}
 use Rattle.bits.proofs.Distance.{twoApart, two-apart}
 use Rattle.bits.proofs.Tests.{upto, upto-at, and-left, and-right}
