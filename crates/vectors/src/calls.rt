@@ -1,8 +1,8 @@
 // What each letter stands for.
-use crate::dates;
 use crate::listings;
-use crate::reading;
-use crate::sending;
+use trials::dates;
+use trials::reading;
+use trials::sending;
 
 // Tries a case: its letter, its text, and the input behind, of which the first n bytes stand in its line.
 pub fn call(letter: u8, text: &[u8], behind: &[u8], n: usize) {

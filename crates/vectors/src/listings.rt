@@ -1,7 +1,7 @@
 // Lines of `station` listed.
-use crate::numbers;
-use crate::show;
 use listing::ListAnswer;
+use trials::numbers;
+use trials::show;
 
 // The longest text that is printed whole.
 const PRINTED: usize = 200;

@@ -2,14 +2,10 @@
 // a letter that says what is tried, numbers that are not printed, a space, a text, a `#`, and bytes to be read.
 // The text is printed, and behind it what the code gives.
 mod calls;
-mod dates;
 mod listings;
-mod numbers;
-mod reading;
-mod sending;
-mod show;
 
 use libc::STDIN_FILENO;
+use trials::show;
 
 // Space for all cases.
 const INPUT_SPACE: usize = 131_072;
