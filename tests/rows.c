@@ -1,7 +1,7 @@
 /*
  * Tries a library in whose row list the words of two rows of one half stand in each other's place, against the reference,
  * whose list is document 01's: what it writes has these two words exchanged and nothing else; it reads its own recordings,
- * of every row, back as sent; and each word of six bits gives the reference's answer with the two rows exchanged.
+ * of every row that a plan sends, back as sent; and each word of six bits gives the reference's answer with the two rows exchanged.
  *
  * usage: rows ROW ROW
  */
@@ -159,7 +159,7 @@ int main(int argc, char **argv)
     for (i = 1; i <= 51; i++)
         if (i != 49 && frames[i] == 0)
             fprintf(stderr, "rows: row %u was never sent\n", i), exit(1);
-    printf("rows: words of rows %u and %u exchanged: %lu recordings of all rows read back as sent, %lu and %lu frames of these two\n",
+    printf("rows: words of rows %u and %u exchanged: %lu recordings of all rows but 49 read back as sent, %lu and %lu frames of these two\n",
            rows[0], rows[1], recordings, frames[rows[0]], frames[rows[1]]);
     return 0;
 }
