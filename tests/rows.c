@@ -92,7 +92,8 @@ static void try_recording(const struct ref_plan *p, uint32_t first, uint32_t cou
     recordings++;
 }
 
-/* Every pair of rows: in January, in July, over the ends of both months with a leap second, and over the days of change. */
+/* Every pair of rows: in January, in July, over the end of July with a leap second, and over the start of each Sunday of 2000,
+   where dst_on[1] and the row change. Then kinds 1 and 2. */
 static void try_rows(void)
 {
     struct ref_plan p = {0, 0, 0, 6, 1, 1};
