@@ -1,4 +1,4 @@
--- One turn of reading a recording: an accepted frame's entry is put behind the entries so far.
+-- One turn of reading a recording: an accepted frame's entry is put after the entries so far.
 -- Assumes nothing.
 use Prim.Native.Nat.{ℕ, suc, _+_, _-_, _*_, _≤_, _<_}
 use mathlib.Core.Bool.{true, false}
@@ -7,21 +7,23 @@ use mathlib.Core.Path.{_≡_, refl, sym, ap, _∙_}
 use native.Mathlib.Omega.{arith}
 use lib.ListN.{length, take, drop, length-append, length-drop}
 use lib.Seq.{length-take-le, drop-drop}
-use Rattle.format.specs.Entry.{Entry, entryBytes}
-use Rattle.format.specs.Reading.{entry, readFrame}
-use Rattle.sequence.specs.Reading.{after, follows, readFrames, Outcome}
-use Rattle.sequence.specs.declared.Due.{Due}
+use Rattle.format.specs.Entry.{Entry, entrySize, entryBytes}
+use Rattle.format.specs.Questions.{after}
+use Rattle.format.specs.Next.{entry, readNext}
+use Rattle.format.specs.declared.Due.{Due}
+use Rattle.format.specs.declared.Due.the-variants.{Minute}
+use Rattle.sequence.specs.Reading.{add, readFrames, Outcome}
 use Rattle.sequence.proofs.Resume.{resume, resume-add}
 use Rattle.sequence.proofs.Steps.{frame-read}
 use Rattle.sequence.proofs.Tails.{tail, tail-back}
 
-length-entry : (e : Entry) → length (entryBytes e) ≡ 12
+length-entry : (e : Entry) → length (entryBytes e) ≡ entrySize
 unfolding entryBytes
 length-entry e = refl
 
 -- the buffer, whose part from k on is lent and comes back as ys
-module _ (buffer ys : List ℕ) (k : ℕ) (e : Entry) (room : k + 12 ≤ length buffer) (h : ys ≡ entryBytes e ++ drop 12 (take (length buffer - k) (drop k buffer))) where
-  pub put-back : take k buffer ++ (ys ++ drop (length buffer - k) (drop k buffer)) ≡ take k buffer ++ (entryBytes e ++ drop 12 (drop k buffer))
+module _ (buffer ys : List ℕ) (k : ℕ) (e : Entry) (room : k + entrySize ≤ length buffer) (h : ys ≡ entryBytes e ++ drop entrySize (take (length buffer - k) (drop k buffer))) where
+  pub put-back : take k buffer ++ (ys ++ drop (length buffer - k) (drop k buffer)) ≡ take k buffer ++ (entryBytes e ++ drop entrySize (drop k buffer))
   put-back = tail-back buffer k ys ∙ rw (h, tail buffer k)
 
   pub put-length : length (take k buffer ++ (ys ++ drop (length buffer - k) (drop k buffer))) ≡ length buffer
@@ -29,23 +31,33 @@ module _ (buffer ys : List ℕ) (k : ℕ) (e : Entry) (room : k + 12 ≤ length 
       ap length put-back
       ∙ omega (
         arith,
-        length-append (take k buffer) (entryBytes e ++ drop 12 (drop k buffer)),
-        length-append (entryBytes e) (drop 12 (drop k buffer)),
+        length-append (take k buffer) (entryBytes e ++ drop entrySize (drop k buffer)),
+        length-append (entryBytes e) (drop entrySize (drop k buffer)),
         length-take-le k buffer (omega arith),
         length-entry e,
-        length-drop 12 (drop k buffer),
+        length-drop entrySize (drop k buffer),
         length-drop k buffer,
       )
 
-pub turn : (fewer count used : ℕ) (due : Due) (bits buffer ys : List ℕ) (e : Entry) (o : Outcome)
-    → 0 < length (drop used bits) → readFrame false (drop used bits) ≡ entry e → follows due (e .minute) ≡ true
-    → count * 12 + 12 ≤ length buffer → ys ≡ entryBytes e ++ drop 12 (take (length buffer - count * 12) (drop (count * 12) buffer))
+pub turn : (fewer count used : ℕ) (due d : Due) (bits buffer ys : List ℕ) (e : Entry) (o : Outcome) → d ≡ after due e
+    → 0 < length (drop used bits) → readNext due false (drop used bits) ≡ entry e
+    → count * entrySize + entrySize ≤ length buffer → ys ≡ entryBytes e ++ drop entrySize (take (length buffer - count * entrySize) (drop (count * entrySize) buffer))
     → resume count used buffer (readFrames (suc fewer) due (drop used bits)) ≡ o
-    → resume (count + 1) (used + e .seconds) (take (count * 12) buffer ++ (ys ++ drop (length buffer - count * 12) (drop (count * 12) buffer)))
-    (readFrames fewer (after e) (drop (used + e .seconds) bits))
-    ≡ o
-turn fewer count used due bits buffer ys e o some r d room h inv =
-    rw (put-back buffer ys (count * 12) e room h, ← drop-drop (e .seconds) used bits)
-    (sym (resume-add count used buffer e (readFrames fewer (after e) (drop (e .seconds) (drop used bits))) room)
-    ∙ ap (resume count used buffer) (sym (frame-read fewer due (drop used bits) some e r d))
+    → resume (count + 1) (used + e .seconds) (take (count * entrySize) buffer ++ (ys ++ drop (length buffer - count * entrySize) (drop (count * entrySize) buffer))) (readFrames fewer d (drop (used + e .seconds) bits)) ≡ o
+turn fewer count used due d bits buffer ys e o ed some r room h inv =
+    rw (ed, put-back buffer ys (count * entrySize) e room h, ← drop-drop (e .seconds) used bits)
+    (sym (resume-add count used buffer e (readFrames fewer (after due e) (drop (e .seconds) (drop used bits))) room)
+    ∙ ap (resume count used buffer) (sym (frame-read fewer due (drop used bits) some e r))
     ∙ inv)
+
+-- and the state at the end
+pub turn-due : (fewer used : ℕ) (due d last : Due) (bits : List ℕ) (e : Entry) → d ≡ after due e
+    → 0 < length (drop used bits) → readNext due false (drop used bits) ≡ entry e
+    → readFrames (suc fewer) due (drop used bits) .due ≡ last → readFrames fewer d (drop (used + e .seconds) bits) .due ≡ last
+unfolding add
+turn-due fewer used due d last bits e ed some r h = rw (ed, ← drop-drop (e .seconds) used bits) (rw (frame-read fewer due (drop used bits) some e r) at h)
+
+-- the state after a frame, as the code makes it
+pub after-is : (due : Due) (e : Entry) → Minute (e .minute + 1) ≡ after due e
+unfolding after
+after-is due e = refl

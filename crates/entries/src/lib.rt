@@ -1,18 +1,19 @@
-// Frames read into entries: one frame, or a recording.
+// Frames read into entries: one frame, or a recording, from a state on.
 ghost use mathlib.Core.Path.{_≡_};
 ghost use mathlib.Core.List.{_++_};
 ghost use Prim.Native.Nat.{_≤_};
 ghost use lib.ListN.{length, drop};
-ghost use Rattle.format.specs.Entry.{entryBytes};
-ghost use Rattle.format.specs.Reading.{readOne};
+ghost use Rattle.format.specs.Entry.{entrySize, entryBytes};
+ghost use Rattle.format.specs.Questions.{start};
+ghost use Rattle.format.specs.Next.{readOne, oneDue};
 ghost use Rattle.frame.specs.Answer.{entryFrom};
-ghost use Rattle.sequence.specs.Reading.{follows, readInto};
+ghost use Rattle.sequence.specs.Reading.{readFrom, dueFrom, readInto};
 ghost use Rattle.entries.specs.Answer.{endNumber, endOutcome, summaryOutcome};
 use codewords::State;
+use format::Due;
 use frame::Fields;
 use frame::FrameAnswer;
 use frame::Refusal;
-use sequence::Due;
 
 // How a reading ended.
 pub enum End {
@@ -20,11 +21,18 @@ pub enum End {
     Refused(Refusal),
 }
 
-// The entries written, the bits that they took, and the end.
+// The entries written, the bits that they took, the end, and the state after them.
 pub struct Summary {
     pub entries: usize,
     pub used: usize,
     pub end: End,
+    pub due: Due,
+}
+
+// How the reading of one frame ended, and the state after it.
+pub struct One {
+    pub end: End,
+    pub due: Due,
 }
 
 impl End {
@@ -44,8 +52,8 @@ const ENTRY_SIZE: usize = 12;
 
 // Writes an entry to the front of out.
 fn put_entry(state: State, fields: Fields, out: &mut [u8])
-    requires { ⌜ 12 ≤ length (now out) ⌝ }
-    ensures { λ r. ⌜ now (out .exit) ≡ entryBytes (entryFrom state fields) ++ drop 12 (now (out .entry)) ⌝ }
+    requires { ⌜ entrySize ≤ length (now out) ⌝ }
+    ensures { λ r. ⌜ now (out .exit) ≡ entryBytes (entryFrom state fields) ++ drop entrySize (now (out .entry)) ⌝ }
 {
     let minute = fields.minute;
     let daylight = state.daylight;
@@ -69,40 +77,45 @@ fn put_entry(state: State, fields: Fields, out: &mut [u8])
     bytes::copy(&entry, out);
 }
 
-// Reads one frame alone into an entry of 12 bytes.
-pub fn read_one(bits: &[u8], entry: &mut [u8]) -> End
-    ensures { λ r. ⌜ endOutcome r (now (entry .exit)) ≡ readOne (now (entry .entry)) (now (bits .entry)) ⌝ }
+// Reads one frame alone in a state into an entry of 12 bytes.
+pub fn read_one(bits: &[u8], entry: &mut [u8], due: Due) -> One
+    ensures { λ r.
+        ⌜ (endOutcome (r .end) (now (entry .exit))
+        ≡ readOne due (now (entry .entry)) (now (bits .entry)))
+        × (r .due ≡ oneDue due (now (entry .entry)) (now (bits .entry))) ⌝ }
 {
     if entry.len() < ENTRY_SIZE {
-        return End::Refused(Refusal::EntrySpace);
+        return One {
+            end: End::Refused(Refusal::EntrySpace),
+            due,
+        };
     }
-    let answer = frame::read_frame(bits, true);
+    let answer = reader::read_next(bits, true, due);
     match answer {
-        FrameAnswer::Refused(refusal) => End::Refused(refusal),
+        FrameAnswer::Refused(refusal) => One {
+            end: End::Refused(refusal),
+            due,
+        },
         FrameAnswer::Read(state, fields) => {
             put_entry(state, fields, entry);
-            End::Complete
+            One {
+                end: End::Complete,
+                due: Due::Minute(fields.minute + 1),
+            }
         }
     }
 }
 
-// Question 14.
-fn is_due(due: Due, minute: u32) -> bool
-    ensures { λ r. ⌜ r ≡ follows due minute ⌝ }
-{
-    match due {
-        Due::Any => true,
-        Due::Minute(m) => minute == m,
-    }
-}
-
-// Reads a recording into entries of 12 bytes each.
-pub fn read_recording(bits: &[u8], entries: &mut [u8]) -> Summary
-    ensures { λ r. ⌜ summaryOutcome r (now (entries .exit)) ≡ readInto (now (entries .entry)) (now (bits .entry)) ⌝ }
+// Reads frames into entries of 12 bytes each, from a state on.
+pub fn read_from(bits: &[u8], entries: &mut [u8], due: Due) -> Summary
+    ensures { λ r.
+        ⌜ (summaryOutcome r (now (entries .exit))
+        ≡ readFrom due (now (entries .entry)) (now (bits .entry)))
+        × (r .due ≡ dueFrom due (now (entries .entry)) (now (bits .entry))) ⌝ }
 {
     let mut used: usize = 0;
     let mut count: usize = 0;
-    let mut due = Due::Any;
+    let mut next = due;
     while used < bits.len() {
         let from = count * ENTRY_SIZE;
         if entries.len() - from < ENTRY_SIZE {
@@ -110,30 +123,24 @@ pub fn read_recording(bits: &[u8], entries: &mut [u8]) -> Summary
                 entries: count,
                 used,
                 end: End::Refused(Refusal::EntrySpace),
+                due: next,
             };
         }
-        let answer = frame::read_frame(&bits[used..], false);
+        let answer = reader::read_next(&bits[used..], false, next);
         match answer {
             FrameAnswer::Refused(refusal) => {
                 return Summary {
                     entries: count,
                     used,
                     end: End::Refused(refusal),
+                    due: next,
                 };
             }
             FrameAnswer::Read(state, fields) => {
-                let minute = fields.minute;
-                if !is_due(due, minute) {
-                    return Summary {
-                        entries: count,
-                        used,
-                        end: End::Refused(Refusal::Order),
-                    };
-                }
                 put_entry(state, fields, &mut entries[from..]);
                 used += fields.length as usize;
                 count += 1;
-                due = Due::Minute(minute + 1);
+                next = Due::Minute(fields.minute + 1);
             }
         }
     }
@@ -141,5 +148,15 @@ pub fn read_recording(bits: &[u8], entries: &mut [u8]) -> Summary
         entries: count,
         used,
         end: End::Complete,
+        due: next,
     }
+}
+
+// Reads a recording into entries of 12 bytes each.
+pub fn read_recording(bits: &[u8], entries: &mut [u8]) -> Summary
+    ensures { λ r.
+        ⌜ (summaryOutcome r (now (entries .exit)) ≡ readInto (now (entries .entry)) (now (bits .entry)))
+        × (r .due ≡ dueFrom start (now (entries .entry)) (now (bits .entry))) ⌝ }
+{
+    read_from(bits, entries, Due::Any)
 }

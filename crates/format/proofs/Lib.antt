@@ -1,5 +1,6 @@
 pub mod Words
 pub mod Legal
+pub mod Entry
 pub mod Questions
 pub mod Sending
 pub mod Accepted
@@ -8,6 +9,10 @@ pub mod RoundTrip
 pub mod Unread
 pub mod Echo
 pub mod One
-pub mod Chain
 pub mod Refusals
 pub mod OneBit
+pub mod FalseMinute
+pub mod AnyWord
+pub mod TwoErrors
+pub mod Facts
+pub mod Stated

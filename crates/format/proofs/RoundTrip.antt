@@ -1,4 +1,4 @@
--- Reading a frame as received: one place inverted or none, bits 19, 29 and 39 at will, and anything behind it.
+-- Reading a frame as received: one place inverted or none, any bits at 19, 29 and 39, and anything after it.
 -- Assumes nothing.
 use Prim.Native.Nat.{ℕ, zero, suc, _+_, _-_, _*_, _/_, _%_, _≤_, _<_}
 use mathlib.Core.Bool.{Bool, true, false}
@@ -13,25 +13,28 @@ use Rattle.bits.specs.Bits.{bit, bits, number, isBit, isZero, all}
 use Rattle.bits.proofs.Bits.{number-bits}
 use Rattle.bits.proofs.Tests.{all-binary, and-true, head-true, tail-true}
 use Rattle.timeword.specs.TimeWord.{codeWord, parities, reading}
-use Rattle.codewords.specs.CodeWords.{stateWords, stateOf, nextWords}
+use Rattle.codewords.specs.CodeWords.{illegal, stateWords, stateOf, nextWords}
 use Rattle.codewords.proofs.RowList.{row-back}
 use Rattle.codewords.proofs.Tables.{state-back, state-word-lt, row-small, next-word-lt}
-use Rattle.format.specs.Frame.{Sent, sync, body, bodyOf, frame, wordIn, stateIn, nextIn}
+use Rattle.format.specs.Frame.{minFrame, syncWord, Sent, sync, body, bodyOf, frame, wordIn, stateIn, nextIn}
 use Rattle.format.specs.Inverting.{flip, invertAt, from, timeNumbers, timeBits, framePlaces, inverted, withUnread}
-use Rattle.format.specs.Reading.{entry, enough, entryOf, readFrame}
+use Rattle.format.specs.Reading.{entryOf}
+use Rattle.format.specs.Questions.{start, follows, entryNext, enough}
+use Rattle.format.specs.Next.{entry, readNext}
+use Rattle.format.specs.declared.Due.{Due}
 use Rattle.format.specs.Entry.{sentEntry}
 use Rattle.format.specs.Received.{Reception, isReception, received, withEcho, receivedEntry, onlyPlace}
 use Rattle.format.proofs.Legal.{Legal, long}
 use Rattle.format.proofs.Sending.{bodyOf-binary}
 use Rattle.format.proofs.Inverting.{read-inverted, bits-invert, length-invert}
-use Rattle.format.proofs.Questions.{yes-9, yes-13}
+use Rattle.format.proofs.Questions.{yes-8, yes-14}
 
 -- the time-word bits of a frame as sent, by their numbers
 pub time-bits-sent : (s : Sent) → timeBits (frame s) ≡ codeWord (s .minute)
 unfolding timeBits timeNumbers from frame bodyOf body sync codeWord parities bits
 time-bits-sent s = refl
 
-zeros-pass : (n : ℕ) (rest : List ℕ) → all isZero (take n (replicate n 0 ++ rest)) ≡ true
+pub zeros-pass : (n : ℕ) (rest : List ℕ) → all isZero (take n (replicate n 0 ++ rest)) ≡ true
 unfolding all isZero
 zeros-pass zero rest = refl
 zeros-pass (suc n) rest = zeros-pass n rest
@@ -65,7 +68,7 @@ reception-bits r h =
 -- the state word sent is read as the state
 pub state-read : (s : Sent) → Legal s → stateOf (number (bits 5 (getD stateWords (4 * s .leap + s .daylight) 0))) ≡ 4 * s .leap + s .daylight
 state-read s l =
-    let k : 4 * s .leap + s .daylight < 12 = omega (arith, l .leap-ok, l .daylight-ok) in
+    let k : 4 * s .leap + s .daylight < illegal = omega (arith, l .leap-ok, l .daylight-ok) in
     rw (number-bits 5 (getD stateWords (4 * s .leap + s .daylight) 0), mod-eq-of-lt (state-word-lt (4 * s .leap + s .daylight) k)) (state-back (4 * s .leap + s .daylight) k)
 
 module _ (s : Sent) (r : Reception) (rest : List ℕ) where
@@ -97,27 +100,27 @@ module _ (s : Sent) (r : Reception) (rest : List ℕ) where
   unfolding heard
   notice-heard = refl
 
-  sync-heard : number (take 13 heard) ≡ 0b0011101101000
+  sync-heard : number (take 13 heard) ≡ syncWord
   unfolding heard number bit
   sync-heard = refl
 
-  behind-heard : drop 59 heard ≡ replicate (s .seconds - 59) 0 ++ rest
+  behind-heard : drop minFrame heard ≡ replicate (s .seconds - minFrame) 0 ++ rest
   unfolding heard
   behind-heard = refl
 
-  head-heard : take 59 heard ≡ received r (bodyOf s)
+  head-heard : take minFrame heard ≡ received r (bodyOf s)
   unfolding heard
   head-heard = refl
 
-  bits-heard : Bits r → s .notice ≤ 1 → all isBit (take 59 heard) ≡ true
+  bits-heard : Bits r → s .notice ≤ 1 → all isBit (take minFrame heard) ≡ true
   unfolding received withUnread inverted
   bits-heard b h =
       let sent = bits-invert (r .place) framePlaces (bodyOf s) (all-binary (bodyOf s) (bodyOf-binary s h)) in
       rw head-heard (bits-set _ 39 (r .bit39) (bits-set _ 29 (r .bit29) (bits-set _ 19 (r .bit19) sent (b .bit19-ok)) (b .bit29-ok)) (b .bit39-ok))
 
-  length-heard : length heard ≡ 59 + (s .seconds - 59 + length rest)
+  length-heard : length heard ≡ minFrame + (s .seconds - minFrame + length rest)
   unfolding heard
-  length-heard = omega (arith, length-append {A = ℕ} (replicate (s .seconds - 59) 0) rest, length-replicate {A = ℕ} (s .seconds - 59) 0)
+  length-heard = omega (arith, length-append {A = ℕ} (replicate (s .seconds - minFrame) 0) rest, length-replicate {A = ℕ} (s .seconds - minFrame) 0)
 
   module _ (l : Legal s) where
     state-is : stateOf (number (stateIn heard)) ≡ 4 * s .leap + s .daylight
@@ -148,19 +151,15 @@ module _ (s : Sent) (r : Reception) (rest : List ℕ) where
           ← l .seconds-ok,
         )
 
-    trip : (one : Bool) → Bits r → enough one (s .seconds) (length heard) ≡ true → readFrame one heard ≡ entry (receivedEntry s r)
-    unfolding receivedEntry withEcho sentEntry
-    trip one b fits =
-        let k : stateOf (number (stateIn heard)) < 12 = rw state-is (omega (arith, l .leap-ok, l .daylight-ok)) in
-        yes-9 one heard (omega (arith, length-heard)) (bits-heard b (l .notice-ok)) sync-heard k
+    trip : (due : Due) (one : Bool) → follows due (s .minute) ≡ true → Bits r → enough one (s .seconds) (length heard) ≡ true
+        → readNext due one heard ≡ entry (receivedEntry s r)
+    unfolding entryNext receivedEntry withEcho sentEntry
+    trip due one turn b fits =
+        let k : stateOf (number (stateIn heard)) < illegal = rw state-is (omega (arith, l .leap-ok, l .daylight-ok)) in
+        yes-8 due one heard (omega (arith, length-heard)) (bits-heard b (l .notice-ok)) sync-heard
         ∙ rw (entry-heard b)
-        (yes-13 one heard (receivedEntry s r) (row-small (s .daylight) (s .row) (l .row-ok) .1) (l .minute-ok)
-        (and-true fits (rw behind-heard (zeros-pass (s .seconds - 59) rest))))
-
-    -- a frame of a recording, with anything behind it
-    pub frame-heard : Bits r → readFrame false (received r (frame s) ++ rest) ≡ entry (receivedEntry s r)
-    unfolding enough
-    frame-heard b = rw heard-is (trip false b (le-leb (s .seconds) (length heard) (omega (arith, length-heard, long s l))))
+        (yes-14 due one heard (receivedEntry s r) k (row-small (s .daylight) (s .row) (l .row-ok) .1) (l .minute-ok)
+        (and-true fits (rw behind-heard (zeros-pass (s .seconds - minFrame) rest))) turn)
 
 -- receiving keeps the length
 pub length-received : (r : Reception) (f : List ℕ) → length (received r f) ≡ length f
@@ -187,22 +186,29 @@ unfolding isReception onlyPlace isBit
 only-place-reception m i h = and-true h (and-true (le-leb (m % 2) 1 (omega arith)) refl)
 
 module _ (s : Sent) (i : ℕ) (rest : List ℕ) where
-  pub length-inverted : 59 ≤ s .seconds → length (inverted i (frame s)) ≡ s .seconds
+  pub length-inverted : minFrame ≤ s .seconds → length (inverted i (frame s)) ≡ s .seconds
   unfolding inverted frame bodyOf body sync framePlaces invertAt flip from codeWord parities bits
-  length-inverted h = omega (arith, length-replicate {A = ℕ} (s .seconds - 59) 0)
+  length-inverted h = omega (arith, length-replicate {A = ℕ} (s .seconds - minFrame) 0)
 
--- a frame of a recording, with anything behind it
-pub frame-round-trip : (s : Sent) → Legal s → (i : ℕ) → i ≤ 31 → (rest : List ℕ) → readFrame false (inverted i (frame s) ++ rest) ≡ entry (sentEntry s i)
-frame-round-trip s l i h rest =
-    rw (← only-place s i, ← only-place-entry s i) (frame-heard s (onlyPlace (s .minute) i) rest l (only-place-bits (s .minute) i h))
+-- ---- in the reader's state
 
--- one frame alone
-pub single-heard : (s : Sent) → Legal s → (r : Reception) → Bits r → readFrame true (received r (frame s)) ≡ entry (receivedEntry s r)
-unfolding enough
-single-heard s l r b =
-    rw (← append-nil (received r (frame s)), heard-is s r [])
-    (trip s r [] l true b (eq-eqb (s .seconds) (length (heard s r [])) (omega (arith, length-heard s r [], long s l))))
+module _ (s : Sent) (l : Legal s) (r : Reception) (b : Bits r) (due : Due) (turn : follows due (s .minute) ≡ true) where
+  -- the next frame of a recording, with anything after it
+  pub frame-next : (rest : List ℕ) → readNext due false (received r (frame s) ++ rest) ≡ entry (receivedEntry s r)
+  unfolding enough
+  frame-next rest =
+      rw (heard-is s r rest)
+      (trip s r rest l due false turn b (le-leb (s .seconds) (length (heard s r rest)) (omega (arith, length-heard s r rest, long s l))))
 
-pub single-round-trip : (s : Sent) → Legal s → (i : ℕ) → i ≤ 31 → readFrame true (inverted i (frame s)) ≡ entry (sentEntry s i)
+  -- a frame alone
+  pub single-next : readNext due true (received r (frame s)) ≡ entry (receivedEntry s r)
+  unfolding enough
+  single-next =
+      rw (← append-nil (received r (frame s)), heard-is s r [])
+      (trip s r [] l due true turn b (eq-eqb (s .seconds) (length (heard s r [])) (omega (arith, length-heard s r [], long s l))))
+
+-- with one place inverted, or none
+pub single-round-trip : (s : Sent) → Legal s → (i : ℕ) → i ≤ 31 → readNext start true (inverted i (frame s)) ≡ entry (sentEntry s i)
+unfolding follows
 single-round-trip s l i h =
-    rw (← only-place s i, ← only-place-entry s i) (single-heard s l (onlyPlace (s .minute) i) (only-place-bits (s .minute) i h))
+    rw (← only-place s i, ← only-place-entry s i) (single-next s l (onlyPlace (s .minute) i) (only-place-bits (s .minute) i h) start refl)

@@ -1,6 +1,6 @@
--- Bits 29 and 39 of a frame are not read, and nothing behind the frame is.
+-- Bits 29 and 39 of a frame are not read, and nothing after the frame is.
 -- Assumes nothing.
-use Prim.Native.Nat.{ℕ, zero, suc, _+_, _-_, _≤_}
+use Prim.Native.Nat.{ℕ, zero, suc, _+_, _-_, _≤_, _<_}
 use mathlib.Core.Bool.{Bool, true, false}
 use mathlib.Core.List.{List, [], _∷_, _++_}
 use mathlib.Core.Path.{_≡_, refl, sym, ap, subst, _∙_}
@@ -12,12 +12,16 @@ use lib.Seq.{getD-take, take-take}
 use borrow.Author.Tests.{le-leb}
 use Rattle.bits.specs.Bits.{isBit, all}
 use Rattle.bits.proofs.Parts.{part-take}
-use Rattle.format.specs.Frame.{wordIn, stateIn, nextIn}
+use Rattle.format.specs.Frame.{minFrame, wordIn, stateIn, nextIn}
 use Rattle.format.specs.Inverting.{withUnread}
 use Rattle.format.specs.Entry.{Entry}
-use Rattle.format.specs.Reading.{entry, enough, entryOf, askFields, readFrame, readOne}
+use Rattle.format.specs.Reading.{entryOf}
+use Rattle.format.specs.Questions.{enough, entryNext, timeQuestions, nextQuestions}
+use Rattle.format.specs.Next.{entry, readNext, readOne}
+use Rattle.format.specs.declared.Due.{Due}
 use Rattle.format.proofs.Questions.{word-front, state-front, next-front, no-6}
-use Rattle.format.proofs.Accepted.{accepted, entry-only, seconds-59}
+use Rattle.format.proofs.One.{one-same}
+use Rattle.format.proofs.Accepted.{accepted, entry-only, seconds-59, next-59}
 
 -- the list of g 0 to g (n - 1)
 unfoldable pub tabulate : ℕ → (ℕ → ℕ) → List ℕ
@@ -36,71 +40,82 @@ unfolding withUnread
 length-unread x y f = simp length-set
 
 module _ (x y : ℕ) (hx : isBit x ≡ true) (hy : isBit y ≡ true) where
-  spread : (alone : Bool) (g : ℕ → ℕ) (r : List ℕ) → isBit (g 29) ≡ true → isBit (g 39) ≡ true
-      → readFrame alone (withUnread x y (tabulate 59 g ++ r)) ≡ readFrame alone (tabulate 59 g ++ r)
-  unfolding withUnread readFrame askFields entryOf wordIn stateIn nextIn tabulate all
-  spread alone g r h29 h39 = rw (hx, hy, h29, h39)
+  spread : (due : Due) (alone : Bool) (g : ℕ → ℕ) (r : List ℕ) → isBit (g 29) ≡ true → isBit (g 39) ≡ true
+      → readNext due alone (withUnread x y (tabulate minFrame g ++ r)) ≡ readNext due alone (tabulate minFrame g ++ r)
+  unfolding withUnread readNext nextQuestions timeQuestions entryNext entryOf wordIn stateIn nextIn tabulate all
+  spread due alone g r h29 h39 = rw (hx, hy, h29, h39)
 
-  pub read-unread : (alone : Bool) (f : List ℕ) → isBit (getD f 29 0) ≡ true → isBit (getD f 39 0) ≡ true
-      → readFrame alone (withUnread x y f) ≡ readFrame alone f
-  read-unread alone f h29 h39 =
-      elim (decLe 59 (length f)) [
-        | yes l ↦ rw (split 59 f l) at (spread alone (λ k. getD f k 0) (drop 59 f) h29 h39)
-        | no l ↦ no-6 alone (withUnread x y f) (rw (length-unread x y f) (omega arith)) ∙ sym (no-6 alone f (omega arith))
+  -- the next frame in any state
+  pub next-unread : (due : Due) (alone : Bool) (f : List ℕ) → isBit (getD f 29 0) ≡ true → isBit (getD f 39 0) ≡ true
+      → readNext due alone (withUnread x y f) ≡ readNext due alone f
+  next-unread due alone f h29 h39 =
+      elim (decLe minFrame (length f)) [
+        | yes l ↦ rw (split minFrame f l) at (spread due alone (λ k. getD f k 0) (drop minFrame f) h29 h39)
+        | no l ↦ no-6 due alone (withUnread x y f) (rw (length-unread x y f) (omega arith)) ∙ sym (no-6 due alone f (omega arith))
       ]
 
   -- one frame alone, into an entry buffer
-  pub one-unread : (buffer f : List ℕ) → isBit (getD f 29 0) ≡ true → isBit (getD f 39 0) ≡ true
-      → readOne buffer (withUnread x y f) ≡ readOne buffer f
-  unfolding readOne
-  one-unread buffer f h29 h39 = rw (read-unread true f h29 h39)
+  pub one-unread : (due : Due) (buffer f : List ℕ) → isBit (getD f 29 0) ≡ true → isBit (getD f 39 0) ≡ true
+      → readOne due buffer (withUnread x y f) ≡ readOne due buffer f
+  one-unread due buffer f h29 h39 = one-same due buffer (withUnread x y f) f (next-unread due true f h29 h39)
 
-  pub entry-unread : (f : List ℕ) → 59 ≤ length f → entryOf (withUnread x y f) ≡ entryOf f
-  entry-unread f l = rw (split 59 f l) at (go (λ k. getD f k 0) (drop 59 f))
+  pub entry-unread : (f : List ℕ) → minFrame ≤ length f → entryOf (withUnread x y f) ≡ entryOf f
+  entry-unread f l = rw (split minFrame f l) at (go (λ k. getD f k 0) (drop minFrame f))
     where
-      go : (g : ℕ → ℕ) (r : List ℕ) → entryOf (withUnread x y (tabulate 59 g ++ r)) ≡ entryOf (tabulate 59 g ++ r)
+      go : (g : ℕ → ℕ) (r : List ℕ) → entryOf (withUnread x y (tabulate minFrame g ++ r)) ≡ entryOf (tabulate minFrame g ++ r)
       go g r = unfold withUnread entryOf wordIn stateIn nextIn tabulate in refl
 
 -- an entry comes from the first 59 bits
-pub entry-front : (f : List ℕ) → entryOf (take 59 f) ≡ entryOf f
+pub entry-front : (f : List ℕ) → entryOf (take minFrame f) ≡ entryOf f
 unfolding entryOf
-entry-front f = rw (word-front f, state-front f, next-front f, getD-take 59 f 49 0 (omega arith), getD-take 59 f 19 0 (omega arith))
+entry-front f = rw (word-front f, state-front f, next-front f, getD-take minFrame f 49 0 (omega arith), getD-take minFrame f 19 0 (omega arith))
 
 -- a frame's answer comes from the bits that it calls for, and from whether there are enough of them
 module _ (f g : List ℕ) (same : take (entryOf f .seconds) f ≡ take (entryOf f .seconds) g) where
   abbrev s : ℕ
   s = entryOf f .seconds
 
-  front : take 59 f ≡ take 59 g
-  front = sym (take-take 59 s f (seconds-59 f)) ∙ ap (take 59) same ∙ take-take 59 s g (seconds-59 f)
+  front : take minFrame f ≡ take minFrame g
+  front = sym (take-take minFrame s f (seconds-59 f)) ∙ ap (take minFrame) same ∙ take-take minFrame s g (seconds-59 f)
 
   pub same-entry : entryOf g ≡ entryOf f
   same-entry = sym (entry-front g) ∙ ap entryOf (sym front) ∙ entry-front f
 
-  behind : take (s - 59) (drop 59 f) ≡ take (s - 59) (drop 59 g)
+  behind : take (s - minFrame) (drop minFrame f) ≡ take (s - minFrame) (drop minFrame g)
   behind =
-      let h : 59 + (s - 59) ≤ s = omega (arith, seconds-59 f) in
-      sym (part-take s 59 (s - 59) f h) ∙ ap (λ (l : List ℕ). take (s - 59) (drop 59 l)) same ∙ part-take s 59 (s - 59) g h
+      let h : minFrame + (s - minFrame) ≤ s = omega (arith, seconds-59 f) in
+      sym (part-take s minFrame (s - minFrame) f h) ∙ ap (λ (l : List ℕ). take (s - minFrame) (drop minFrame l)) same ∙ part-take s minFrame (s - minFrame) g h
 
-  pub same-answer : (alone : Bool) → leb 59 (length f) ≡ leb 59 (length g) → enough alone s (length f) ≡ enough alone s (length g)
-      → readFrame alone g ≡ readFrame alone f
-  unfolding readFrame askFields
-  same-answer alone q6 q13 =
+  pub same-answer : (due : Due) (alone : Bool) → leb minFrame (length f) ≡ leb minFrame (length g) → enough alone s (length f) ≡ enough alone s (length g)
+      → readNext due alone g ≡ readNext due alone f
+  unfolding readNext nextQuestions timeQuestions entryNext
+  same-answer due alone q6 q13 =
       let k : stateIn g ≡ stateIn f = sym (state-front g) ∙ ap stateIn (sym front) ∙ state-front f in
-      let t : take 13 g ≡ take 13 f = sym (take-take 13 59 g (omega arith)) ∙ ap (take 13) (sym front) ∙ take-take 13 59 f (omega arith) in
+      let t : take 13 g ≡ take 13 f = sym (take-take 13 minFrame g (omega arith)) ∙ ap (take 13) (sym front) ∙ take-take 13 minFrame f (omega arith) in
       rw (same-entry, k, t, ← front, ← q6, ← q13, ← behind)
 
--- an accepted frame is accepted with fewer bits behind it
-pub cut-answer : (f : List ℕ) (e : Entry) (m : ℕ) → readFrame false f ≡ entry e → e .seconds ≤ m → readFrame false (take m f) ≡ entry e
+-- the same of the next frame in any state
+pub next-entry-unread : (x y : ℕ) → isBit x ≡ true → isBit y ≡ true → (due : Due) (f : List ℕ) → minFrame ≤ length f → entryNext due (withUnread x y f) ≡ entryNext due f
+unfolding entryNext
+next-entry-unread x y hx hy due f l = entry-unread x y hx hy f l
+
+module _ (due : Due) (f g : List ℕ) (same : take (entryNext due f .seconds) f ≡ take (entryNext due f .seconds) g) where
+  pub next-same-answer : (alone : Bool) → leb minFrame (length f) ≡ leb minFrame (length g) → enough alone (entryNext due f .seconds) (length f) ≡ enough alone (entryNext due f .seconds) (length g)
+      → readNext due alone g ≡ readNext due alone f
+  unfolding entryNext
+  next-same-answer alone q6 q13 = same-answer f g same due alone q6 q13
+
+-- an accepted frame is accepted with fewer bits after it
+pub cut-answer : (due : Due) (f : List ℕ) (e : Entry) (m : ℕ) → readNext due false f ≡ entry e → e .seconds ≤ m → readNext due false (take m f) ≡ entry e
 unfolding enough
-cut-answer f e m h l =
-    let is : e ≡ entryOf f = entry-only false f e h in
-    let s = entryOf f .seconds in
-    let fits : s ≤ length f = subst (λ (d : Entry). d .seconds ≤ length f) is (accepted false f e h .enough-left) in
+cut-answer due f e m h l =
+    let is : e ≡ entryNext due f = entry-only due false f e h in
+    let s = entryNext due f .seconds in
+    let fits : s ≤ length f = subst (λ (d : Entry). d .seconds ≤ length f) is (accepted due false f e h .enough-left) in
     let short : s ≤ m = subst (λ (d : Entry). d .seconds ≤ m) is l in
-    let long : 59 ≤ s = seconds-59 f in
+    let long : minFrame ≤ s = next-59 due f in
     let both : s ≤ length (take m f) = omega (arith, length-take m f) in
-    same-answer f (take m f) (sym (take-take s m f short)) false
-    (le-leb 59 (length f) (omega arith) ∙ sym (le-leb 59 (length (take m f)) (omega arith)))
+    next-same-answer due f (take m f) (sym (take-take s m f short)) false
+    (le-leb minFrame (length f) (omega arith) ∙ sym (le-leb minFrame (length (take m f)) (omega arith)))
     (le-leb s (length f) fits ∙ sym (le-leb s (length (take m f)) both))
     ∙ h

@@ -3,6 +3,10 @@ pub mod Entry
 pub mod Inverting
 pub mod Received
 pub mod Reading
+pub mod Questions
+pub mod Next
 pub mod Refusals
 pub mod Sending
 pub mod OneBit
+pub mod FalseMinute
+pub mod TwoErrors

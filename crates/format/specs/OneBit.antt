@@ -10,11 +10,12 @@ use Rattle.bits.specs.Bits.{pick, invertBit}
 use Rattle.calendar.specs.Calendar.{minuteCount}
 use Rattle.plan.specs.Plan.{legalPlan}
 use Rattle.plan.specs.declared.Plan.{Plan}
-use Rattle.format.specs.Frame.{Sent, sentBy, frame}
+use Rattle.format.specs.Frame.{minFrame, Sent, sentBy, frame}
 use Rattle.format.specs.Inverting.{framePlaces}
 use Rattle.format.specs.Entry.{Entry, entrySize, sentEntry}
 use Rattle.format.specs.Received.{withEcho}
-use Rattle.format.specs.Reading.{Answer, refused, entry, oneOutcome, readOne}
+use Rattle.format.specs.Questions.{start}
+use Rattle.format.specs.Next.{Answer, refused, entry, oneOutcome, readOne}
 
 -- an entry with another notice
 unfoldable pub withNotice : ℕ → Entry → Entry
@@ -41,7 +42,7 @@ oneBitAnswer s k =
     (pick (ltb k 47) (entry (sentEntry s (getD framePlaces k 0)))
     (pick (eqb k 49) (entry (withNotice (1 - s .notice) (sentEntry s 0)))
     (pick (ltb k 53) (refused 9)
-    (pick (ltb k 59) (refused 10)
+    (pick (ltb k minFrame) (refused 10)
     (refused 13))))))
 
 -- theorem: every frame that a legal plan gives a minute of the range, of 59, 60 and 61 bits alike, with any one of its bits inverted, read
@@ -49,4 +50,4 @@ oneBitAnswer s k =
 abbrev pub AnyBitInverted : Type 0
 AnyBitInverted =
     (p : Plan) (m k : ℕ) (buffer : List ℕ) → legalPlan p ≡ true → m < minuteCount → k < length (frame (sentBy p m)) → entrySize ≤ length buffer
-    → readOne buffer (invertBit k (frame (sentBy p m))) ≡ oneOutcome buffer (oneBitAnswer (sentBy p m) k)
+    → readOne start buffer (invertBit k (frame (sentBy p m))) ≡ oneOutcome buffer (oneBitAnswer (sentBy p m) k)

@@ -4,7 +4,7 @@ ghost use Prim.Native.Nat.{_%_, _^_, _<_};
 ghost use lib.Dec.{eqb};
 ghost use lib.ListN.{getD};
 ghost use Rattle.bits.specs.Bits.{bits, number, pick};
-ghost use Rattle.format.specs.Frame.{wordIn, stateIn};
+ghost use Rattle.format.specs.Frame.{minFrame, wordIn, stateIn};
 ghost use Rattle.format.specs.Sending.{timePart, dayPart};
 
 // The synchronization word, bits 0 to 12.
@@ -31,7 +31,7 @@ pub fn day_part(state: u64, notice: u64, next: u64) -> u64
 
 // The time word in the bits 0 to 58 of a frame.
 pub fn time_word(word: u64) -> u32
-    ensures { λ r. ⌜ r ≡ number (wordIn (bits 59 word)) ⌝ }
+    ensures { λ r. ⌜ r ≡ number (wordIn (bits minFrame word)) ⌝ }
 {
     let high = (word >> 40) % 64 * 512 + (word >> 30) % 512;
     let low = (word >> 20) % 512 * 128 + (word >> 12) % 128;
@@ -39,14 +39,14 @@ pub fn time_word(word: u64) -> u32
 }
 
 pub fn state_bits(word: u64) -> u8
-    ensures { λ r. ⌜ r ≡ number (stateIn (bits 59 word)) ⌝ }
+    ensures { λ r. ⌜ r ≡ number (stateIn (bits minFrame word)) ⌝ }
 {
     ((word >> 10) % 4 * 8 + (word >> 6) % 8) as u8
 }
 
 // 1 where the echo in a frame equals the minute's time[0].
 pub fn echo_right(word: u64, minute: u32) -> u8
-    ensures { λ r. ⌜ r ≡ pick (eqb (getD (bits 59 word) 19 0) («minute» % 2)) 1 0 ⌝ }
+    ensures { λ r. ⌜ r ≡ pick (eqb (getD (bits minFrame word) 19 0) («minute» % 2)) 1 0 ⌝ }
 {
     if (word >> 39) % 2 == (minute % 2) as u64 {
         1

@@ -1,4 +1,4 @@
-// Recordings written: many frames, one behind the other.
+// Recordings written: many frames, one after the other.
 ghost use mathlib.Core.Path.{_≡_};
 ghost use mathlib.Core.Bool.{true};
 ghost use mathlib.Core.List.{_++_};
@@ -6,12 +6,13 @@ ghost use Prim.Native.Nat.{_+_, _≤_};
 ghost use lib.ListN.{length, drop};
 ghost use Rattle.calendar.specs.Calendar.{minuteCount};
 ghost use Rattle.plan.specs.Plan.{legalPlan};
-ghost use Rattle.sequence.specs.Writing.{recording, seconds, writeResult, bufferWritten};
+ghost use Rattle.sequence.specs.Writing.{maxCount, recording, seconds, writeResult, bufferWritten};
 ghost use Rattle.recording.specs.Answer.{writeRefusalNumber, writeNumbers};
 use calendar::Date;
 use plan::Plan;
+use plan::USUAL_FRAME;
 
-// The question that writing got a no to, numbers 1 to 4.
+// The question of writing that was answered no, numbers 1 to 4.
 pub enum WriteRefusal {
     IllegalPlan,
     Count,
@@ -44,22 +45,27 @@ const MAX_COUNT: u32 = 1_000;
 // The bits of the frames of count minutes from the first on. They are less than a day, so that one of them at most
 // ends a day, and only such a minute can have 59 or 61 seconds.
 fn bits_needed(plan: Plan, first: u32, count: u32) -> usize
-    requires { ⌜ (count ≤ 1000) × (first + count ≤ minuteCount) ⌝ }
+    requires { ⌜ (count ≤ maxCount) × (first + count ≤ minuteCount) ⌝ }
     ensures { λ r. ⌜ r ≡ seconds plan first count ⌝ }
 {
     let last = first / 1440 * 1440 + 1439;
-    let mut sum = count * 60;
+    let mut sum = count * USUAL_FRAME;
     if last < first + count {
-        sum = sum - 60 + plan.length(last);
+        sum = sum - USUAL_FRAME + plan.length(last);
     }
     sum as usize
 }
 
-// Writes the frames of count minutes from the first on, each directly behind the one before. The bits that a day's
+// Writes the frames of count minutes from the first on, each directly after the one before. The bits that a day's
 // frames share are worked out once for the day.
 fn write_frames(plan: Plan, first: u32, count: u32, out: &mut [u8])
-    requires { ⌜ (legalPlan plan ≡ true) × (1 ≤ count) × (first + count ≤ minuteCount) × (seconds plan first count ≤ length (now out)) ⌝ }
-    ensures { λ r. ⌜ now (out .exit) ≡ recording plan first count ++ drop (seconds plan first count) (now (out .entry)) ⌝ }
+    requires { ⌜ (legalPlan plan ≡ true)
+        × (1 ≤ count)
+        × (first + count ≤ minuteCount)
+        × (seconds plan first count ≤ length (now out)) ⌝ }
+    ensures { λ r.
+        ⌜ now (out .exit)
+        ≡ recording plan first count ++ drop (seconds plan first count) (now (out .entry)) ⌝ }
 {
     let mut day = first / 1440;
     let mut word = frame::day_word(plan, day);
@@ -78,7 +84,9 @@ fn write_frames(plan: Plan, first: u32, count: u32, out: &mut [u8])
 
 // Writes a recording; a refused one leaves the buffer as it was.
 pub fn write_recording(plan: Plan, first: u32, count: u32, out: &mut [u8]) -> WriteAnswer
-    ensures { λ r. ⌜ (writeNumbers r ≡ writeResult plan first count (length (now (out .entry)))) × (now (out .exit) ≡ bufferWritten plan first count (now (out .entry))) ⌝ }
+    ensures { λ r.
+        ⌜ (writeNumbers r ≡ writeResult plan first count (length (now (out .entry))))
+        × (now (out .exit) ≡ bufferWritten plan first count (now (out .entry))) ⌝ }
 {
     if !plan.is_legal() {
         return WriteAnswer::Refused(WriteRefusal::IllegalPlan);

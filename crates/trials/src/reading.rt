@@ -1,24 +1,7 @@
 // Frames and recordings read.
-use crate::numbers;
 use crate::show;
-
-// Byte i of given bits: a digit, or `x` for 255; 0 behind them.
-fn byte_at(digits: &[u8], i: usize) -> u8 {
-    if digits.len() <= i {
-        return 0;
-    }
-    let digit = digits[i];
-    if digit == b'x' { 255 } else { digit ^ b'0' }
-}
-
-// Makes bytes of digits.
-fn load(digits: &[u8], bits: &mut [u8]) {
-    let mut i: usize = 0;
-    while i < bits.len() {
-        bits[i] = byte_at(digits, i);
-        i += 1;
-    }
-}
+use crate::show::ENTRY_SIZE;
+use format::Due;
 
 // Reads the bits into the front of the entry bytes: as one frame the refusal or 0,
 // as a recording the entries, the bits used, and the refusal or 0.
@@ -27,7 +10,8 @@ fn read_front(alone: bool, bits: &[u8], entries: &mut [u8], space: usize) {
         return;
     }
     if alone {
-        let end = entries::read_one(bits, &mut entries[0..space]);
+        let one = entries::read_one(bits, &mut entries[0..space], Due::Any);
+        let end = one.end;
         show::value(end.number());
     } else {
         let answer = entries::read_recording(bits, &mut entries[0..space]);
@@ -53,7 +37,7 @@ pub fn shown(letter: u8, bits: &[u8], n: usize, space: usize) {
     match letter {
         b's' => {
             show::digits(bits, n);
-            read(true, bits, n, 12, 14);
+            read(true, bits, n, ENTRY_SIZE, 14);
         }
         b'c' => read(false, bits, n, 36, 38),
         b'l' => {
@@ -68,15 +52,15 @@ pub fn shown(letter: u8, bits: &[u8], n: usize, space: usize) {
 // Reads n given bits; the first number is the entry space.
 pub fn given(letter: u8, text: &[u8], digits: &[u8], n: usize) {
     let mut bits = [0u8; 192];
-    load(digits, &mut bits);
-    shown(letter, &bits, n, numbers::size(text, 0));
+    cases::load(digits, &mut bits);
+    shown(letter, &bits, n, cases::size(text, 0));
 }
 
 // Reads the first n bits as one frame: what its plan gave it.
 pub fn facts(bits: &[u8], n: usize) {
-    let mut entry = [7u8; 12];
+    let mut entry = [7u8; ENTRY_SIZE];
     if n <= bits.len() {
-        entries::read_one(&bits[0..n], &mut entry);
+        entries::read_one(&bits[0..n], &mut entry, Due::Any);
         show::facts(&entry);
     }
 }

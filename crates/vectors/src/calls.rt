@@ -4,7 +4,7 @@ use trials::dates;
 use trials::reading;
 use trials::sending;
 
-// Tries a case: its letter, its text, and the input behind, of which the first n bytes stand in its line.
+// Tries a case: its letter, its text, and the input after it, of which the first n bytes stand in its line.
 pub fn call(letter: u8, text: &[u8], behind: &[u8], n: usize) {
     match letter {
         // the date of a minute, the minute of a date, the local date of a minute

@@ -1,26 +1,9 @@
 // Lines of `station` listed.
 use listing::ListAnswer;
-use trials::numbers;
 use trials::show;
 
 // The longest text that is printed whole.
 const PRINTED: usize = 200;
-
-// The check sum with one byte more.
-fn with_byte(sum: u32, byte: u8) -> u32 {
-    let longer = sum as u64 * 257 + byte as u64;
-    (longer % 4_294_967_291) as u32
-}
-
-fn check_sum(text: &[u8]) -> u32 {
-    let mut sum: u32 = 0;
-    let mut i: usize = 0;
-    while i < text.len() {
-        sum = with_byte(sum, text[i]);
-        i += 1;
-    }
-    sum
-}
 
 // Lists the first line of an input to the front of the bytes: the refusal or 0 is printed, the number of bytes given back.
 fn list_front(input: &[u8], out: &mut [u8], space: usize) -> usize {
@@ -41,12 +24,12 @@ fn list_front(input: &[u8], out: &mut [u8], space: usize) -> usize {
 }
 
 // Lists the first line of an input; the first number is the space. The refusal or 0, the number of bytes,
-// the check sum of the text with every byte behind it, and the text where it is short.
+// the check sum of the text with every byte after it, and the text where it is short.
 pub fn listed(text: &[u8], input: &[u8]) {
     let mut out = [7u8; listing::LISTING_SPACE];
-    let n = list_front(input, &mut out, numbers::size(text, 0));
+    let n = list_front(input, &mut out, cases::size(text, 0));
     show::size(n);
-    show::value(check_sum(&out));
+    show::value(cases::check_sum(&out));
     if n < PRINTED {
         show::end();
         show::text(&out[0..n]);

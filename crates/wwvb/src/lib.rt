@@ -4,13 +4,15 @@ ghost use mathlib.Core.List.{_∷_};
 ghost use lib.ListN.{length, replicate};
 ghost use Rattle.calendar.specs.Answer.{dateValues, dateOfMinute, minuteOfDate};
 ghost use Rattle.localtime.specs.Local.{localOf};
-ghost use Rattle.format.specs.Reading.{readOne};
+ghost use Rattle.format.specs.Questions.{start};
+ghost use Rattle.format.specs.Next.{readOne};
 ghost use Rattle.sequence.specs.Writing.{writeResult, bufferWritten};
 ghost use Rattle.sequence.specs.Reading.{readInto};
 ghost use Rattle.wwvb.specs.Replies.{planOf, dateOf, replyNumbers, dateReply, minuteReply, writeReply, oneReply, readReply};
 use calendar::Date;
 use calendar::DateAnswer;
 use calendar::MinuteAnswer;
+use format::Due;
 use localtime::LocalAnswer;
 use plan::Plan;
 use recording::WriteAnswer;
@@ -149,7 +151,11 @@ pub extern "C" fn wwvb_write_recording(
     count: u32,
     out: &mut [u8],
 ) -> WriteReply
-    ensures { λ r. ⌜ (writeReply r ≡ writeResult (planOf kind spring autumn «leap_month» «leap_sign» notice) first count (length (now (out .entry)))) × (now (out .exit) ≡ bufferWritten (planOf kind spring autumn «leap_month» «leap_sign» notice) first count (now (out .entry))) ⌝ }
+    ensures { λ r.
+        ⌜ (writeReply r
+        ≡ writeResult (planOf kind spring autumn «leap_month» «leap_sign» notice) first count (length (now (out .entry))))
+        × (now (out .exit)
+        ≡ bufferWritten (planOf kind spring autumn «leap_month» «leap_sign» notice) first count (now (out .entry))) ⌝ }
 {
     let plan = Plan {
         kind,
@@ -172,9 +178,10 @@ pub extern "C" fn wwvb_write_recording(
 // Reads one frame alone into an entry; gives the refusal or 0.
 #[no_mangle]
 pub extern "C" fn wwvb_read_frame(bits: &[u8], entry: &mut [u8]) -> u32
-    ensures { λ r. ⌜ oneReply r (now (entry .exit)) ≡ readOne (now (entry .entry)) (now (bits .entry)) ⌝ }
+    ensures { λ r. ⌜ oneReply r (now (entry .exit)) ≡ readOne start (now (entry .entry)) (now (bits .entry)) ⌝ }
 {
-    let end = entries::read_one(bits, entry);
+    let one = entries::read_one(bits, entry, Due::Any);
+    let end = one.end;
     end.number()
 }
 

@@ -1,18 +1,39 @@
 -- `entries::read_one` meets its contract.
 -- Assumes nothing.
-use mathlib.Core.Path.{sym, ap, _∙_}
+use mathlib.Core.Bool.{true}
+use mathlib.Core.Path.{_≡_, sym, ap, _∙_}
+use native.Mathlib.Omega.{arith}
 use borrow.Author.Needs.{needs}
+use Rattle.format.specs.Entry.{Entry}
+use Rattle.format.specs.Next.{refused, entry, readNext}
 use Rattle.frame.specs.Answer.{refusalNumber, entryFrom, frameNumbers}
+use Rattle.format.proofs.Accepted.{accepted}
 use Rattle.format.proofs.One.{one-no-space, one-refused, one-read}
+use Rattle.entries.proofs.Turn.{after-is}
 use Rattle.entries.proofs.read_one.Statement.{statement}
 use Rattle.entries.proofs.read_one.Tie as tie
 
-returns : tie.Need-returns
-returns c = let a = c .before .before .before .args in
-    one-no-space (a .entry .now) (a .bits .now) (c .if1 .taken)
+-- where the frame is accepted
+module _ (k : tie.After-known-told2) where
+  abbrev r : tie.After-read-next
+  r = k .before .before .before
 
-read-frame-requires : tie.Need-read-frame-requires
-read-frame-requires c κs = search needs
+  abbrev z : tie.Start
+  z = r .before .before .before .before
+
+  abbrev e : Entry
+  e = entryFrom (k .before .answer2 .given .0 .0) (k .before .answer2 .given .0 .1 .0)
+
+  entry-is : readNext (z .args .due) true (z .args .bits .now) ≡ entry e
+  entry-is = sym (r .read-next .ensures) ∙ ap frameNumbers (k .before .answer2 .given .1)
+
+returns : tie.Need-returns
+returns c =
+    let a = c .before .before .before .args in
+    one-no-space (a .due) (a .entry .now) (a .bits .now) (c .if1 .taken)
+
+read-next-requires : tie.Need-read-next-requires
+read-next-requires c κs = search needs
 
 enum-known-answer : tie.Need-enum-known-answer
 enum-known-answer c = search needs
@@ -23,32 +44,39 @@ enum-known-answer-2 c = search needs
 put-entry-requires : tie.Need-put-entry-requires
 put-entry-requires c κs = search needs
 
+add-t18 : tie.Need-add-t18
+add-t18 c =
+    let k = c .before .before .before .before .before in
+    omega (arith, accepted (z k .args .due) true (z k .args .bits .now) (e k) (entry-is k) .minute-in)
+
 returns-2 : tie.Need-returns-2
-returns-2 c = let r = c .before .before .before in
+returns-2 c =
+    let r = c .before .before .before in
     let a = r .before .before .before .before .args in
-    one-refused (a .entry .now) (a .bits .now) (refusalNumber (c .before .answer .given .0 .0)) (r .before .if1 .left)
-    (sym (r .read-frame .ensures) ∙ ap frameNumbers (c .before .answer .given .1))
+    let n = refusalNumber (c .before .answer .given .0 .0) in
+    let is : readNext (a .due) true (a .bits .now) ≡ refused n = sym (r .read-next .ensures) ∙ ap frameNumbers (c .before .answer .given .1) in
+    one-refused (a .due) (a .entry .now) (a .bits .now) n (r .before .if1 .left) is
 
 same-length : tie.Need-same-length
 same-length c = search needs
 
 returns-3 : tie.Need-returns-3
-returns-3 c = let g = c .before .before .before .before .before in
-    let r = g .before .before in
-    let a = r .before .before .before .before .args in
-    one-read (a .entry .now) (a .bits .now) (entryFrom (g .answer2 .given .0 .0) (g .answer2 .given .0 .1 .0)) (c .before .before .put-entry .last .1 .1 .0) (r .before .if1 .left)
-    (sym (r .read-frame .ensures) ∙ ap frameNumbers (g .answer2 .given .1))
-    (c .before .before .put-entry .ensures)
+returns-3 c =
+    let k = c .before .before .before .before .before in
+    let a = z k .args in
+    let put = c .before .before .before .put-entry in
+    one-read (a .due) (a .entry .now) (a .bits .now) (e k) (put .last .1 .1 .0) _ (r k .before .if1 .left) (entry-is k) (put .ensures) (after-is (a .due) (e k))
 
 pub read-one-spec : {M : Type 1} → statement M
 read-one-spec =
     tie.close
     (tie.spec
     returns
-    read-frame-requires
+    read-next-requires
     enum-known-answer
     enum-known-answer-2
     put-entry-requires
+    add-t18
     returns-2
     same-length
     returns-3)

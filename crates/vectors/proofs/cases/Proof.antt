@@ -1,4 +1,4 @@
--- `vectors::cases` is safe and ends: the next case begins behind the line feed of this one.
+-- `vectors::cases` is safe and ends: the next case begins after the line feed of this one.
 -- Assumes nothing.
 use Prim.Native.Nat.{_-_}
 use native.Mathlib.Omega.{arith}
@@ -33,6 +33,9 @@ sub-case-2 c = omega arith
 case-requires : tie.Need-case-requires Inv-loop μ-loop
 case-requires c κs = tt
 
+returns : tie.Need-returns Inv-loop μ-loop
+returns c = tt
+
 add-at : tie.Need-add-at Inv-loop μ-loop
 add-at c = omega arith
 
@@ -42,8 +45,8 @@ loop-less c = omega arith
 loop-again : tie.Need-loop-again Inv-loop μ-loop
 loop-again c = tt
 
-returns : tie.Need-returns Inv-loop μ-loop
-returns c = tt
+returns-2 : tie.Need-returns-2 Inv-loop μ-loop
+returns-2 c = tt
 
 pub cases-spec : {M : Type 1} → statement M
 cases-spec =
@@ -58,7 +61,8 @@ cases-spec =
     part-case-end
     sub-case-2
     case-requires
+    returns
     add-at
     loop-less
     loop-again
-    returns)
+    returns-2)

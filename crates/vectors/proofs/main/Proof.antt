@@ -19,6 +19,9 @@ slice-aggregate-cases c = c .before .before .read-full .ensures .1
 cases-requires : tie.Need-cases-requires
 cases-requires c κs = tt
 
+report-requires : tie.Need-report-requires
+report-requires c κs = tt
+
 returns : tie.Need-returns
 returns c = tt
 
@@ -31,4 +34,5 @@ main-spec =
     array-share-prefix-input
     slice-aggregate-cases
     cases-requires
+    report-requires
     returns)

@@ -1,0 +1,242 @@
+-- `entries::read_from` meets its contract.
+-- Assumes nothing.
+use Prim.Native.Nat.{ℕ, suc, _+_, _-_, _*_, _/_, _≤_, _<_}
+use mathlib.Core.Path.{_≡_, refl, sym, ap, _∙_}
+use mathlib.Core.Bool.{false}
+use native.Mathlib.Omega.{arith}
+use borrow.Author.Needs.{needs}
+use mathlib.Core.List.{List, [], _++_}
+use native.Mathlib.Nat.{sub-zero}
+use lib.ListN.{length, take, drop, length-drop, drop-of-length-le}
+use Rattle.format.specs.Entry.{Entry, entrySize, entryBytes}
+use Rattle.format.specs.Next.{entry, readNext}
+use Rattle.format.specs.declared.Due.{Due}
+use Rattle.format.specs.declared.Due.the-variants.{Minute}
+use Rattle.frame.specs.Answer.{refusalNumber, entryFrom, frameNumbers}
+use Rattle.format.proofs.Accepted.{Accepted, accepted}
+use Rattle.sequence.specs.Reading.{stop, readFrames, readFrom, dueFrom, Outcome}
+use Rattle.sequence.proofs.Resume.{resume, resume-none, resume-stop}
+use Rattle.sequence.proofs.Steps.{ended, no-space, frame-refused}
+use Rattle.sequence.proofs.Tails.{tail}
+use Rattle.entries.proofs.Turn.{put-length, turn, turn-due, after-is}
+use Rattle.entries.proofs.read_from.Statement.{statement}
+use Rattle.entries.proofs.read_from.Tie as tie
+
+abbrev Inv-loop : tie.InvT-loop
+Inv-loop bits entries₀ used₀ count₀ next₀ entries used count next = (used ≤ length bits) × (count * entrySize ≤ length entries₀) × (length entries ≡ length entries₀) × (resume count used entries (readFrames (length entries₀ / entrySize - count) next (drop used bits)) ≡ readFrom next₀ entries₀ bits) × (readFrames (length entries₀ / entrySize - count) next (drop used bits) .due ≡ dueFrom next₀ entries₀ bits)
+
+abbrev μ-loop : tie.MeasureT-loop
+μ-loop bits entries₀ used₀ count₀ next₀ entries used count next = length bits - used
+
+-- at the loop's test
+module _ (a : tie.At-loop Inv-loop μ-loop) where
+  abbrev bits : List ℕ
+  bits = a .before .before .before .args .bits .now
+
+  abbrev buffer : List ℕ
+  buffer = a .before .before .before .args .entries .now
+
+  abbrev first : Due
+  first = a .before .before .before .args .due
+
+  abbrev rest : List ℕ
+  rest = drop (a .loop .used) bits
+
+  abbrev slots : ℕ
+  slots = length buffer / entrySize - a .loop .count
+
+  -- where what is left finds nothing more, the outcome is what is there
+  stopped-at : (n : ℕ) → readFrames slots (a .loop .next) rest ≡ stop (a .loop .next) n
+      → (_≡_ {A = Outcome} (record { count = a .loop .count; used = a .loop .used; refusal = n; buffer = a .loop .entries }) (readFrom first buffer bits)) × (a .loop .next ≡ dueFrom first buffer bits)
+  unfolding stop
+  stopped-at n e = (
+    sym (resume-stop (a .loop .count) (a .loop .used) (a .loop .entries) (a .loop .next) n)
+        ∙ ap (resume (a .loop .count) (a .loop .used) (a .loop .entries)) (sym e)
+        ∙ a .loop .inv .3,
+    rw e at (a .loop .inv .4),
+  )
+
+some : (c : tie.In-loop Inv-loop μ-loop) → 0 < length (rest (c .before))
+some c = omega (arith, length-drop (c .before .loop .used) (bits (c .before)))
+
+-- where a frame is read
+module _ (r : tie.After-read-next Inv-loop μ-loop) where
+  abbrev a : tie.At-loop Inv-loop μ-loop
+  a = r .before .before .before .before
+
+  abbrev fewer : ℕ
+  fewer = length (buffer a) / entrySize - (a .loop .count + 1)
+
+  one-slot : slots a ≡ suc fewer
+  one-slot = omega (arith, r .before .before .if1 .left)
+
+  answer-is : frameNumbers (r .read-next .result) ≡ readNext (a .loop .next) false (rest a)
+  answer-is = r .read-next .ensures ∙ ap (readNext (a .loop .next) false) (tail (bits a) (a .loop .used))
+
+  room : a .loop .count * entrySize + entrySize ≤ length (a .loop .entries)
+  room = omega (arith, r .before .before .if1 .left)
+
+-- where it is accepted
+module _ (k : tie.After-known-told2 Inv-loop μ-loop) where
+  abbrev r : tie.After-read-next Inv-loop μ-loop
+  r = k .before .before .before
+
+  abbrev e : Entry
+  e = entryFrom (k .before .answer2 .given .0 .0) (k .before .answer2 .given .0 .1 .0)
+
+  entry-is : readNext (a r .loop .next) false (rest (a r)) ≡ entry e
+  entry-is = sym (answer-is r) ∙ ap frameNumbers (k .before .answer2 .given .1)
+
+  fine : Accepted (rest (a r)) e
+  fine = accepted (a r .loop .next) false (rest (a r)) e entry-is
+
+  left : a r .loop .used + e .seconds ≤ length (bits (a r))
+  left = omega (arith, fine .enough-left, length-drop (a r .loop .used) (bits (a r)), a r .loop .inv .0)
+
+  -- the buffer when the part comes back as ys, and what is left to read
+  onward : (ys : List ℕ)
+      → ys ≡ entryBytes e ++ drop entrySize (take (length (a r .loop .entries) - a r .loop .count * entrySize) (drop (a r .loop .count * entrySize) (a r .loop .entries)))
+      → resume (a r .loop .count + 1) (a r .loop .used + e .seconds)
+      (take (a r .loop .count * entrySize) (a r .loop .entries) ++ (ys ++ drop (length (a r .loop .entries) - a r .loop .count * entrySize) (drop (a r .loop .count * entrySize) (a r .loop .entries))))
+      (readFrames (fewer r) (Minute (e .minute + 1)) (drop (a r .loop .used + e .seconds) (bits (a r))))
+      ≡ readFrom (first (a r)) (buffer (a r)) (bits (a r))
+  onward ys h =
+      turn (fewer r) (a r .loop .count) (a r .loop .used) (a r .loop .next) (Minute (e .minute + 1)) (bits (a r)) (a r .loop .entries) ys e (readFrom (first (a r)) (buffer (a r)) (bits (a r)))
+      (after-is (a r .loop .next) e) (some (r .before .before .before)) entry-is (room r) h
+      (ap (λ (n : ℕ). resume (a r .loop .count) (a r .loop .used) (a r .loop .entries) (readFrames n (a r .loop .next) (rest (a r)))) (sym (one-slot r)) ∙ a r .loop .inv .3)
+
+  onward-due : readFrames (fewer r) (Minute (e .minute + 1)) (drop (a r .loop .used + e .seconds) (bits (a r))) .due ≡ dueFrom (first (a r)) (buffer (a r)) (bits (a r))
+  onward-due =
+      turn-due (fewer r) (a r .loop .used) (a r .loop .next) (Minute (e .minute + 1)) (dueFrom (first (a r)) (buffer (a r)) (bits (a r))) (bits (a r)) e (after-is (a r .loop .next) e)
+      (some (r .before .before .before)) entry-is (rw (one-slot r) at (a r .loop .inv .4))
+
+loop-holds : tie.Need-loop-holds Inv-loop μ-loop
+unfolding readFrom dueFrom
+loop-holds c =
+    let b = c .before .before .args in
+    (omega arith, omega arith, refl, rw (sub-zero (length (b .entries .now) / entrySize)) (resume-none (b .entries .now) (readFrames (length (b .entries .now) / entrySize) (b .due) (b .bits .now))), rw (sub-zero (length (b .entries .now) / entrySize)))
+
+mul-from : tie.Need-mul-from Inv-loop μ-loop
+mul-from c = omega arith
+
+sub-if1 : tie.Need-sub-if1 Inv-loop μ-loop
+sub-if1 c = omega arith
+
+same-length : tie.Need-same-length Inv-loop μ-loop
+same-length c = c .before .before .loop .inv .2
+
+returns : tie.Need-returns Inv-loop μ-loop
+returns c =
+    let a = c .before .before in
+    let e : slots a ≡ 0 = omega (arith, c .if1 .taken) in
+    stopped-at a 5 (rw e (no-space (a .loop .next) (rest a) (some (c .before))))
+
+sub-read-next : tie.Need-sub-read-next Inv-loop μ-loop
+sub-read-next c = omega arith
+
+part-read-next-start : tie.Need-part-read-next-start Inv-loop μ-loop
+part-read-next-start c = omega arith
+
+part-read-next-end : tie.Need-part-read-next-end Inv-loop μ-loop
+part-read-next-end c = omega arith
+
+read-next-requires : tie.Need-read-next-requires Inv-loop μ-loop
+read-next-requires c κs = search needs
+
+enum-known-answer : tie.Need-enum-known-answer Inv-loop μ-loop
+enum-known-answer c = search needs
+
+same-length-2 : tie.Need-same-length-2 Inv-loop μ-loop
+same-length-2 c = a (c .before .before .before) .loop .inv .2
+
+returns-2 : tie.Need-returns-2 Inv-loop μ-loop
+returns-2 c =
+    let r = c .before .before .before in
+    let n = refusalNumber (c .before .answer .given .0 .0) in
+    stopped-at (a r) n
+    (rw (one-slot r) (frame-refused (fewer r) (a r .loop .next) (rest (a r)) (some (r .before .before .before)) n (sym (answer-is r) ∙ ap frameNumbers (c .before .answer .given .1))))
+
+enum-known-answer-2 : tie.Need-enum-known-answer-2 Inv-loop μ-loop
+enum-known-answer-2 c = search needs
+
+sub-put-entry : tie.Need-sub-put-entry Inv-loop μ-loop
+sub-put-entry c = omega arith
+
+part-put-entry-start : tie.Need-part-put-entry-start Inv-loop μ-loop
+part-put-entry-start c = omega arith
+
+part-put-entry-end : tie.Need-part-put-entry-end Inv-loop μ-loop
+part-put-entry-end c = omega arith
+
+put-entry-requires : tie.Need-put-entry-requires Inv-loop μ-loop
+put-entry-requires c κs =
+    let q = r (c .before) in
+    let b = a q .loop in
+    rw (tail (b .entries) (b .count * entrySize)) (omega (arith, room q, length-drop (b .count * entrySize) (b .entries)))
+
+cast-used : tie.Need-cast-used Inv-loop μ-loop
+cast-used c = search needs
+
+add-used : tie.Need-add-used Inv-loop μ-loop
+add-used c = omega (arith, left (c .before .before .before .before .before))
+
+add-count : tie.Need-add-count Inv-loop μ-loop
+add-count c = omega arith
+
+add-t26 : tie.Need-add-t26 Inv-loop μ-loop
+add-t26 c = omega (arith, fine (c .before .before .before .before .before .before) .minute-in)
+
+loop-less : tie.Need-loop-less Inv-loop μ-loop
+loop-less c = let k = c .before .before .before .before .before .before in omega (arith, left k, fine k .long)
+
+loop-again : tie.Need-loop-again Inv-loop μ-loop
+loop-again c =
+    let k = c .before .before .before .before .before .before in
+    let put = c .before .before .before .before .put-entry in (
+      left k,
+      omega (arith, room (r k), a (r k) .loop .inv .2),
+      put-length (a (r k) .loop .entries) (put .last .1 .1 .0) (a (r k) .loop .count * entrySize) (e k) (room (r k)) (put .ensures) ∙ a (r k) .loop .inv .2,
+      onward k (put .last .1 .1 .0) (put .ensures),
+      onward-due k,
+    )
+
+same-length-3 : tie.Need-same-length-3 Inv-loop μ-loop
+same-length-3 c = c .before .loop .inv .2
+
+returns-3 : tie.Need-returns-3 Inv-loop μ-loop
+returns-3 c =
+    let a = c .before in
+    let e : rest a ≡ [] = drop-of-length-le (bits a) {i = a .loop .used} (c .loop-test .left) in
+    stopped-at a 0 (rw e (ended (slots a) (a .loop .next)))
+
+pub read-from-spec : {M : Type 1} → statement M
+read-from-spec =
+    tie.close
+    (tie.spec
+    Inv-loop
+    μ-loop
+    loop-holds
+    mul-from
+    sub-if1
+    same-length
+    returns
+    sub-read-next
+    part-read-next-start
+    part-read-next-end
+    read-next-requires
+    enum-known-answer
+    same-length-2
+    returns-2
+    enum-known-answer-2
+    sub-put-entry
+    part-put-entry-start
+    part-put-entry-end
+    put-entry-requires
+    cast-used
+    add-used
+    add-count
+    add-t26
+    loop-less
+    loop-again
+    same-length-3
+    returns-3)

@@ -1,0 +1,47 @@
+-- Reading the next frame in the reader's state: one frame alone, a frame of a recording, a frame after others.
+-- Assumes nothing.
+use Prim.Native.Nat.{ℕ}
+use mathlib.Core.Bool.{Bool}
+use mathlib.Core.List.{List, _++_}
+use lib.ListN.{drop}
+use Rattle.questions.specs.Questions.{asked}
+use Rattle.format.specs.Entry.{Entry, entrySize, entryBytes}
+use Rattle.format.specs.Questions.{after, entryNext, nextQuestions, oneQuestions}
+use Rattle.format.specs.declared.Due.{Due}
+
+-- the answer to one frame ("Recordings and entries"): one entry, or the refusal alone
+pub data Answer : Type 0 where
+  refused : ℕ → Answer
+  entry : Entry → Answer
+
+-- the next frame, alone (true) or of a recording (false): its entry, or the refusal of the first question answered no
+unfoldable pub readNext : Due → Bool → List ℕ → Answer
+readNext due alone f = asked refused (nextQuestions due alone f) (entry (entryNext due f))
+
+-- the state after an answer: a refused frame keeps it
+unfoldable pub dueAfterAnswer : Due → Answer → Due
+dueAfterAnswer due (refused n) = due
+dueAfterAnswer due (entry e) = after due e
+
+-- ---- one frame alone, read into an entry buffer
+
+-- its answer: question 5, then those of the next frame
+unfoldable pub oneAnswer : Due → List ℕ → List ℕ → Answer
+oneAnswer due buffer f = asked refused (oneQuestions due buffer f) (entry (entryNext due f))
+
+-- what reading one frame gives ("Recordings and entries"): the refusal or 0, and the entry buffer after it
+pub record OneOutcome : Type 0 where
+  pub refusal : ℕ
+  pub buffer : List ℕ
+
+-- a refused frame writes no entry ("Questions in order"); an entry takes the buffer's first 12 bytes
+unfoldable pub oneOutcome : List ℕ → Answer → OneOutcome
+oneOutcome buffer (refused n) = record { refusal = n; buffer = buffer }
+oneOutcome buffer (entry e) = record { refusal = 0; buffer = entryBytes e ++ drop entrySize buffer }
+
+unfoldable pub readOne : Due → List ℕ → List ℕ → OneOutcome
+readOne due buffer f = oneOutcome buffer (oneAnswer due buffer f)
+
+-- the state after it
+unfoldable pub oneDue : Due → List ℕ → List ℕ → Due
+oneDue due buffer f = dueAfterAnswer due (oneAnswer due buffer f)

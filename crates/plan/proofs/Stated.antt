@@ -1,0 +1,59 @@
+-- Every statement of specs with its proof: where a proof is missing, this module is not proved.
+-- Assumes nothing.
+use Rattle.plan.specs.Theorems.{FirstSundays, ChangesOnSundays, WeeksOfRows, FourthSunday, SpringBeforeAutumn, ChangesInYear, DaylightFollows, RowsFit, WordsReadBack, ThreeLengths, OneOtherLength, OtherLengthInLeapMinute, LeapMinuteExists, LeapMinuteLength, LeapStateOfMonth, SameInDay, SixtyInDay}
+use Rattle.plan.proofs.Follows.{daylight-follows}
+use Rattle.plan.proofs.Changes.{first-sundays, changes-on-sundays, weeks-of-rows, fourth-sunday, spring-before-autumn, changes-in-year}
+use Rattle.plan.proofs.Rows.{rows-fit, words-read-back}
+use Rattle.plan.proofs.LeapMinute.{three-lengths, one-other-length, other-length-in-leap-minute, leap-minute-exists, leap-minute-length, leap-state-of-month}
+use Rattle.plan.proofs.Days.{same-in-day, sixty-in-day}
+
+first-sundays′ : FirstSundays
+first-sundays′ = first-sundays
+
+changes-on-sundays′ : ChangesOnSundays
+changes-on-sundays′ = changes-on-sundays
+
+weeks-of-rows′ : WeeksOfRows
+weeks-of-rows′ = weeks-of-rows
+
+fourth-sunday′ : FourthSunday
+fourth-sunday′ = fourth-sunday
+
+spring-before-autumn′ : SpringBeforeAutumn
+spring-before-autumn′ = spring-before-autumn
+
+changes-in-year′ : ChangesInYear
+changes-in-year′ = changes-in-year
+
+daylight-follows′ : DaylightFollows
+daylight-follows′ = daylight-follows
+
+rows-fit′ : RowsFit
+rows-fit′ = rows-fit
+
+words-read-back′ : WordsReadBack
+words-read-back′ = words-read-back
+
+three-lengths′ : ThreeLengths
+three-lengths′ = three-lengths
+
+one-other-length′ : OneOtherLength
+one-other-length′ = one-other-length
+
+other-length-in-leap-minute′ : OtherLengthInLeapMinute
+other-length-in-leap-minute′ = other-length-in-leap-minute
+
+leap-minute-exists′ : LeapMinuteExists
+leap-minute-exists′ = leap-minute-exists
+
+leap-minute-length′ : LeapMinuteLength
+leap-minute-length′ = leap-minute-length
+
+leap-state-of-month′ : LeapStateOfMonth
+leap-state-of-month′ = leap-state-of-month
+
+same-in-day′ : SameInDay
+same-in-day′ = same-in-day
+
+sixty-in-day′ : SixtyInDay
+sixty-in-day′ = sixty-in-day

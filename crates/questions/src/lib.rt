@@ -1,0 +1,1 @@
+// Questions asked in order until one is answered no: definitions and laws, no code.
