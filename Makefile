@@ -1,14 +1,23 @@
-# make            builds the static library; rt proves it first
+# make            builds the static library, the shared library and station; rt proves them first
+# make shared     builds the shared library, target/shared/libwwvb.so.VERSION
+# make quick      the library, the C tests and station, without the must-fail edits
 # make test       the gate, .ci/run
-# make bench      the library beside a plain C codec
-# make install    library, header, pkg-config file and man page below PREFIX (DESTDIR is put before it)
+# make bench      the library beside a plain C codec, as a table
+# make install    libraries, header, pkg-config file, station and man pages below PREFIX
+#                 (DESTDIR is put before it)
 # make uninstall  removes these
 # make clean      removes target/
 # Nothing is fetched.
 
-VERSION = 0.3.1
+# The header is the one place of the version.
+VERSION := $(shell sed -n 's/^.define WWVB_VERSION "\(.*\)"$$/\1/p' include/wwvb.h)
+MAJOR := $(firstword $(subst ., ,$(VERSION)))
+ifeq ($(VERSION),)
+$(error include/wwvb.h has no line with WWVB_VERSION)
+endif
 PREFIX = /usr/local
 override PREFIX := $(abspath $(PREFIX))
+BINDIR = $(PREFIX)/bin
 INCLUDEDIR = $(PREFIX)/include
 LIBDIR = $(PREFIX)/lib
 PKGCONFIGDIR = $(LIBDIR)/pkgconfig
@@ -18,12 +27,17 @@ DESTDIR =
 CC = cc
 CXX = c++
 CFLAGS = -O2
+LDFLAGS =
 INSTALL = install
 
 LIBRARY = target/staticlib/libwwvb.a
+SHARED = target/shared/libwwvb.so.$(VERSION)
+PROGRAM = target/bin/station
 SOURCES := $(shell find crates -name '*.rt' -o -name '*.antt') crates.txt
 
-all: $(LIBRARY)
+all: $(LIBRARY) $(SHARED) $(PROGRAM)
+
+shared: $(SHARED)
 
 # What is needed, each with what it is for.
 need = @command -v $(firstword $(1)) >/dev/null 2>&1 || { echo "make: '$(firstword $(1))' is not found on the PATH: $(2)" >&2; exit 1; }
@@ -42,34 +56,59 @@ need-install:
 $(LIBRARY): $(SOURCES)
 	$(need-rt)
 	rt staticlib wwvb
+	@touch $@
+
+$(PROGRAM): $(SOURCES)
+	$(need-rt)
+	rt check station
+	@touch $@
+
+# The archive's code is position-independent. It needs no other library, and the link sees that.
+$(SHARED): $(LIBRARY) include/wwvb.h | need-cc
+	@mkdir -p $(@D)
+	$(CC) -shared -nostdlib $(LDFLAGS) -Wl,-soname,libwwvb.so.$(MAJOR) -Wl,--no-undefined \
+	    -Wl,--whole-archive $(LIBRARY) -Wl,--no-whole-archive -o $@
+	@ln -sf $(@F) $(@D)/libwwvb.so.$(MAJOR) && ln -sf libwwvb.so.$(MAJOR) $(@D)/libwwvb.so
+
+quick:
+	$(need-rt)
+	tools/stated
+	CC='$(CC)' CXX='$(CXX)' tests/run --quick
 
 test:
 	$(need-rt)
 	CC='$(CC)' CXX='$(CXX)' .ci/run
 
-# The plain codec is built by CC, and by clang too where it is another compiler and is there.
 bench: $(LIBRARY) need-cc
-	@room=$$(mktemp -d) && trap 'rm -rf "$$room"' EXIT && \
-	for cc in '$(CC)' clang; do \
-	    [ "$$cc" = '$(CC)' ] || command -v "$$cc" >/dev/null 2>&1 || continue; \
-	    $$cc -std=c99 $(CFLAGS) -Iinclude bench/plain.c bench/bench.c $(LIBRARY) -o "$$room/bench" && "$$room/bench" || exit 1; \
-	    echo; \
-	    [ '$(CC)' != clang ] || break; \
-	done
+	@CC='$(CC)' CFLAGS='$(CFLAGS)' bench/run
 
-install: $(LIBRARY) need-install
-	$(INSTALL) -d '$(DESTDIR)$(INCLUDEDIR)' '$(DESTDIR)$(LIBDIR)' '$(DESTDIR)$(PKGCONFIGDIR)' '$(DESTDIR)$(MANDIR)/man3'
+# A folder as the pkg-config file names it: below ${prefix} where it is.
+relative = $(patsubst $(PREFIX)/%,$${prefix}/%,$(1))
+
+install: $(LIBRARY) $(SHARED) $(PROGRAM) need-install
+	$(INSTALL) -d '$(DESTDIR)$(BINDIR)' '$(DESTDIR)$(INCLUDEDIR)' '$(DESTDIR)$(LIBDIR)' '$(DESTDIR)$(PKGCONFIGDIR)' \
+	    '$(DESTDIR)$(MANDIR)/man1' '$(DESTDIR)$(MANDIR)/man3'
+	$(INSTALL) -m 755 $(PROGRAM) '$(DESTDIR)$(BINDIR)/station'
 	$(INSTALL) -m 644 include/wwvb.h '$(DESTDIR)$(INCLUDEDIR)/wwvb.h'
 	$(INSTALL) -m 644 $(LIBRARY) '$(DESTDIR)$(LIBDIR)/libwwvb.a'
-	$(INSTALL) -m 644 man/wwvb.3 '$(DESTDIR)$(MANDIR)/man3/wwvb.3'
-	sed -e 's|@PREFIX@|$(PREFIX)|' -e 's|@INCLUDEDIR@|$(INCLUDEDIR)|' -e 's|@LIBDIR@|$(LIBDIR)|' -e 's|@VERSION@|$(VERSION)|' \
+	$(INSTALL) -m 755 $(SHARED) '$(DESTDIR)$(LIBDIR)/libwwvb.so.$(VERSION)'
+	ln -sf libwwvb.so.$(VERSION) '$(DESTDIR)$(LIBDIR)/libwwvb.so.$(MAJOR)'
+	ln -sf libwwvb.so.$(MAJOR) '$(DESTDIR)$(LIBDIR)/libwwvb.so'
+	sed -e 's|@VERSION@|$(VERSION)|' man/station.1 >'$(DESTDIR)$(MANDIR)/man1/station.1'
+	sed -e 's|@VERSION@|$(VERSION)|' man/wwvb.3 >'$(DESTDIR)$(MANDIR)/man3/wwvb.3'
+	sed -e 's|@PREFIX@|$(PREFIX)|' -e 's|@INCLUDEDIR@|$(call relative,$(INCLUDEDIR))|' \
+	    -e 's|@LIBDIR@|$(call relative,$(LIBDIR))|' -e 's|@VERSION@|$(VERSION)|' \
 	    wwvb.pc.in >'$(DESTDIR)$(PKGCONFIGDIR)/wwvb.pc'
-	chmod 644 '$(DESTDIR)$(PKGCONFIGDIR)/wwvb.pc'
+	chmod 644 '$(DESTDIR)$(MANDIR)/man1/station.1' '$(DESTDIR)$(MANDIR)/man3/wwvb.3' '$(DESTDIR)$(PKGCONFIGDIR)/wwvb.pc'
 
 uninstall:
-	rm -f '$(DESTDIR)$(INCLUDEDIR)/wwvb.h' '$(DESTDIR)$(LIBDIR)/libwwvb.a' '$(DESTDIR)$(PKGCONFIGDIR)/wwvb.pc' '$(DESTDIR)$(MANDIR)/man3/wwvb.3'
+	rm -f '$(DESTDIR)$(BINDIR)/station' '$(DESTDIR)$(INCLUDEDIR)/wwvb.h' '$(DESTDIR)$(LIBDIR)/libwwvb.a' \
+	    '$(DESTDIR)$(LIBDIR)/libwwvb.so' '$(DESTDIR)$(LIBDIR)/libwwvb.so.$(MAJOR)' '$(DESTDIR)$(LIBDIR)/libwwvb.so.$(VERSION)' \
+	    '$(DESTDIR)$(PKGCONFIGDIR)/wwvb.pc' '$(DESTDIR)$(MANDIR)/man1/station.1' '$(DESTDIR)$(MANDIR)/man3/wwvb.3'
 
 clean:
 	rm -rf target
 
-.PHONY: all test bench install uninstall clean need-x86 need-cc need-install
+# One rt at a time: it uses the processors itself.
+.NOTPARALLEL:
+.PHONY: all shared quick test bench install uninstall clean need-x86 need-cc need-install

@@ -1,6 +1,9 @@
 /*
- * Measures the library and the plain C codec in one run: nanoseconds an item, and the ratio. The two are measured in
- * turn, several times, and the least time of each counts. What they give is compared too.
+ * Measures the library and plain C codecs in one run and prints a table in Markdown: nanoseconds an item, and for each plain
+ * codec the library's time divided by its own. All are measured in turn, round by round, by CPU time; the least time of each
+ * counts. Before that, all of them must give the same. The last line names the rows in which the library is not ahead of all.
+ *
+ * PLAINS lists the codecs, as in PLAINS='CODEC(one) CODEC(two)'; bench/run builds them.
  */
 #define _POSIX_C_SOURCE 200809L
 #include "plain.h"
@@ -10,15 +13,29 @@
 #include <string.h>
 #include <time.h>
 
-#if defined __clang__
-#define COMPILER "clang " __clang_version__
-#else
-#define COMPILER "gcc " __VERSION__
+#ifndef PLAINS
+#define PLAINS CODEC(plain)
 #endif
 
-#define ROUNDS 150
+#define ROUNDS 400
 #define FRAMES 10000u
 
+static const struct codec library = {
+    "library", wwvb_write_recording, wwvb_read_recording, wwvb_minute_to_date, wwvb_minute_to_date, wwvb_date_to_minute,
+    wwvb_local_date,
+};
+
+#define CODEC(name) extern const struct codec name;
+PLAINS
+#undef CODEC
+
+#define CODEC(name) &name,
+static const struct codec *const codecs[] = {&library, PLAINS};
+#undef CODEC
+
+#define CODECS (sizeof codecs / sizeof codecs[0])
+
+static uint8_t input[WWVB_MAX_RECORDING];
 static uint8_t bits[2][WWVB_MAX_RECORDING];
 static uint8_t entries[2][WWVB_MAX_COUNT * WWVB_ENTRY_SIZE];
 static uint32_t sink;
@@ -30,35 +47,34 @@ static double now(void)
     return (double)t.tv_sec * 1e9 + (double)t.tv_nsec;
 }
 
-/* Each of these does about FRAMES items by the library (0) or the plain codec (1), and gives how many. The call is chosen
-   before the loop, so that both go the same way through it. */
+/* Each of these does about FRAMES items by a codec and gives how many. The call is taken from the codec before the loop, so
+   that all go the same way through it. */
 
-typedef size_t work(int which, uint32_t n);
+typedef size_t work(const struct codec *c, uint32_t n);
 
 static uint32_t leap_month;
 static int32_t leap_sign;
 
-static size_t write_frames(int which, uint32_t n)
+static size_t write_frames(const struct codec *c, uint32_t n)
 {
     uint32_t done, minute = 6412320 - 20000;
     wwvb_write_reply (*call)(uint32_t, uint32_t, uint32_t, uint32_t, int32_t, uint32_t, uint32_t, uint32_t, uint8_t *,
-                             size_t) = which ? plain_write_recording : wwvb_write_recording;
+                             size_t) = c->write_recording;
 
     for (done = 0; done < FRAMES; done += n, minute += n) {
-        wwvb_write_reply r = call(0, 10, 37, leap_month, leap_sign, 0, minute, n, bits[which], sizeof bits[which]);
+        wwvb_write_reply r = call(0, 10, 37, leap_month, leap_sign, 0, minute, n, bits[0], sizeof bits[0]);
         sink += (uint32_t)r.bits + r.refusal;
     }
     return done;
 }
 
-static size_t read_frames(int which, uint32_t n)
+static size_t read_frames(const struct codec *c, uint32_t n)
 {
     uint32_t done;
-    wwvb_read_reply (*call)(const uint8_t *, size_t, uint8_t *, size_t) =
-        which ? plain_read_recording : wwvb_read_recording;
+    wwvb_read_reply (*call)(const uint8_t *, size_t, uint8_t *, size_t) = c->read_recording;
 
     for (done = 0; done < FRAMES; done += n) {
-        wwvb_read_reply r = call(bits[0], n * 60, entries[which], sizeof entries[which]);
+        wwvb_read_reply r = call(input, n * 60, entries[0], sizeof entries[0]);
         sink += (uint32_t)r.used + r.refusal;
     }
     return done;
@@ -88,112 +104,207 @@ static void prepare_dates(void)
     }
 }
 
-static size_t make_dates(int which, uint32_t n)
+static size_t dates_by(wwvb_date_reply (*call)(uint32_t))
 {
     uint32_t i;
-    wwvb_date_reply (*call)(uint32_t) = which ? plain_minute_to_date : wwvb_minute_to_date;
 
-    for (i = n; i < FRAMES; i++) {
+    for (i = 0; i < FRAMES; i++) {
         wwvb_date_reply r = call(dates[i].number);
         sink += r.year + r.month + r.day + r.hour + r.minute + r.weekday;
     }
-    return FRAMES - n;
+    return FRAMES;
 }
 
-static size_t make_local_dates(int which, uint32_t n)
+static size_t make_dates(const struct codec *c, uint32_t n)
+{
+    (void)n;
+    return dates_by(c->minute_to_date);
+}
+
+static size_t make_dates_fast(const struct codec *c, uint32_t n)
+{
+    (void)n;
+    return dates_by(c->fast_minute_to_date);
+}
+
+static size_t make_local_dates(const struct codec *c, uint32_t n)
 {
     uint32_t i;
-    wwvb_date_reply (*call)(uint32_t, uint32_t, int32_t, uint32_t) = which ? plain_local_date : wwvb_local_date;
+    wwvb_date_reply (*call)(uint32_t, uint32_t, int32_t, uint32_t) = c->local_date;
 
-    for (i = n; i < FRAMES; i++) {
+    (void)n;
+    for (i = 0; i < FRAMES; i++) {
         wwvb_date_reply r = call(dates[i].number, dates[i].state, dates[i].offset, dates[i].change_hour);
         sink += r.year + r.month + r.day + r.hour + r.minute + r.weekday;
     }
-    return FRAMES - n;
+    return FRAMES;
 }
 
-static size_t make_minutes(int which, uint32_t n)
+static size_t make_minutes(const struct codec *c, uint32_t n)
 {
     uint32_t i;
-    wwvb_minute_reply (*call)(uint32_t, uint32_t, uint32_t, uint32_t, uint32_t) =
-        which ? plain_date_to_minute : wwvb_date_to_minute;
+    wwvb_minute_reply (*call)(uint32_t, uint32_t, uint32_t, uint32_t, uint32_t) = c->date_to_minute;
 
-    for (i = n; i < FRAMES; i++) {
+    (void)n;
+    for (i = 0; i < FRAMES; i++) {
         wwvb_minute_reply r = call(dates[i].year, dates[i].month, dates[i].day, dates[i].hour, dates[i].minute);
         sink += r.minute;
     }
-    return FRAMES - n;
+    return FRAMES;
 }
 
+/* The rows in which the library takes longer than some plain codec. */
+static char slower[2000];
+
+/* A row of the table; n is the frames in a recording, or 0. */
 static void measure(const char *what, work *w, uint32_t n)
 {
-    double best[2] = {1e18, 1e18};
-    int round, which;
+    double best[CODECS];
+    size_t k;
+    int round, behind = 0;
 
+    for (k = 0; k < CODECS; k++)
+        best[k] = 1e18;
     for (round = 0; round < ROUNDS; round++)
-        for (which = 0; which < 2; which++) {
+        for (k = 0; k < CODECS; k++) {
             double t = now();
-            size_t items = w(which, n);
+            size_t items = w(codecs[k], n);
             t = (now() - t) / (double)items;
-            if (t < best[which])
-                best[which] = t;
+            if (t < best[k])
+                best[k] = t;
         }
+    printf("| %s |", what);
     if (n)
-        printf("| %s | %u | %.1f | %.1f | %.2f |\n", what, n, best[0], best[1], best[0] / best[1]);
-    else
-        printf("| %s | | %.1f | %.1f | %.2f |\n", what, best[0], best[1], best[0] / best[1]);
-}
+        printf(" %u", (unsigned)n);
+    printf(" | %.1f |", best[0]);
+    for (k = 1; k < CODECS; k++) {
+        printf(" %.1f (%.2f) |", best[k], best[0] / best[k]);
+        behind |= best[0] / best[k] >= 1.005; /* printed as 1.01 or more */
+    }
+    printf("\n");
+    fflush(stdout);
+    if (behind) {
+        size_t used = strlen(slower);
 
-static void same(uint32_t n)
-{
-    if (memcmp(entries[0], entries[1], n * WWVB_ENTRY_SIZE) != 0 || memcmp(bits[0], bits[1], n * 60) != 0) {
-        fprintf(stderr, "bench: the two differ\n");
-        exit(1);
+        if (n)
+            snprintf(slower + used, sizeof slower - used, "; %s, %u", what, (unsigned)n);
+        else
+            snprintf(slower + used, sizeof slower - used, "; %s", what);
     }
 }
 
-static const char *const readings[4] = {
-    "frame read", "frame read, one bit inverted", "frame read, no daylight time (row 50)", "frame read, leap month",
-};
-
-/* A recording of n frames for each of the readings. */
-static void prepare(uint32_t reading, uint32_t n)
+static void differ(const struct codec *c, const char *where)
 {
-    uint32_t f, minute = reading < 3 ? 6412320 : 6573599 - 1001;
-
-    if (reading == 2)
-        wwvb_write_recording(1, 0, 0, 0, 0, 0, minute, n, bits[0], sizeof bits[0]);
-    else
-        wwvb_write_recording(0, 10, 37, 149, 1, 0, minute, n, bits[0], sizeof bits[0]);
-    if (reading == 1)
-        for (f = 0; f < n; f++)
-            bits[0][f * 60 + 40 + f % 7] ^= 1;
-    memcpy(bits[1], bits[0], sizeof bits[0]);
+    fprintf(stderr, "bench: %s and the library differ: %s\n", c->label, where);
+    exit(1);
 }
+
+/* Writes by each codec, the library first, to `input`. */
+static void write_all(uint32_t kind, uint32_t month, int32_t sign, uint32_t minute, uint32_t n)
+{
+    size_t k;
+
+    memset(bits, 0, sizeof bits);
+    for (k = 0; k < CODECS; k++) {
+        wwvb_write_reply r = codecs[k]->write_recording(kind, kind ? 0 : 10, kind ? 0 : 37, month, sign, 0, minute, n,
+                                                        bits[k > 0], sizeof bits[0]);
+        if (r.refusal || r.bits != n * 60 || memcmp(bits[0], bits[k > 0], sizeof bits[0]))
+            differ(codecs[k], "writing");
+    }
+    memcpy(input, bits[0], sizeof input);
+}
+
+/* Reads `input` by each codec. */
+static void read_all(uint32_t n)
+{
+    size_t k;
+
+    memset(entries, 0, sizeof entries);
+    for (k = 0; k < CODECS; k++) {
+        wwvb_read_reply r = codecs[k]->read_recording(input, n * 60, entries[k > 0], sizeof entries[0]);
+        if (r.refusal || r.entries != n || r.used != n * 60 || memcmp(entries[0], entries[k > 0], sizeof entries[0]))
+            differ(codecs[k], "reading");
+    }
+}
+
+static void date_all(void)
+{
+    uint32_t i;
+    size_t k;
+
+    for (i = 0; i < FRAMES; i++)
+        for (k = 1; k < CODECS; k++) {
+            wwvb_date_reply a[2], b[2], q[2];
+            wwvb_minute_reply m[2];
+            size_t j;
+
+            for (j = 0; j < 2; j++) {
+                const struct codec *c = codecs[j ? k : 0];
+
+                a[j] = c->minute_to_date(dates[i].number);
+                q[j] = c->fast_minute_to_date(dates[i].number);
+                b[j] = c->local_date(dates[i].number, dates[i].state, dates[i].offset, dates[i].change_hour);
+                m[j] = c->date_to_minute(dates[i].year, dates[i].month, dates[i].day, dates[i].hour, dates[i].minute);
+            }
+            if (memcmp(&a[0], &a[1], sizeof a[0]) || memcmp(&q[0], &q[1], sizeof q[0]) || memcmp(&b[0], &b[1], sizeof b[0])
+                || memcmp(&m[0], &m[1], sizeof m[0]))
+                differ(codecs[k], "dates");
+        }
+}
+
+/* What is read: the plan's kind, its leap month and sign, the first minute, and whether one bit of each frame is inverted. */
+static const struct {
+    const char *what;
+    uint32_t kind, month;
+    int32_t sign;
+    uint32_t minute, inverted;
+} readings[4] = {
+    {"frame read", 0, 149, 1, 6412320, 0},
+    {"read, one bit inverted", 0, 149, 1, 6412320, 1},
+    {"read, row 50 (no daylight time)", 1, 0, 0, 6412320, 0},
+    {"read, leap month", 0, 149, 1, 6573599 - 1001, 0},
+};
 
 int main(void)
 {
-    static const uint32_t sizes[] = {1, 10, 100, 1000};
-    size_t i;
-    uint32_t k;
+    static const uint32_t sizes[] = {1, 10, 1000};
+    size_t i, k;
+    uint32_t f;
 
-    printf("plain C compiled by %s\n\n", COMPILER);
-    printf("| what | frames in a recording | library, ns each | plain C, ns each | ratio |\n|---|---|---|---|---|\n");
-    for (i = 0; i < 4; i++)
+    printf("| what | frames | library |");
+    for (k = 1; k < CODECS; k++)
+        printf(" %s |", codecs[k]->label);
+    printf("\n|---|---|---|");
+    for (k = 1; k < CODECS; k++)
+        printf("---|");
+    printf("\n");
+
+    write_all(0, 0, 0, 6412320 - 20000, 1000);
+    for (i = 0; i < 3; i++)
         measure("frame written", write_frames, sizes[i]);
     leap_month = 149;
     leap_sign = 1;
-    for (i = 0; i < 4; i++)
-        measure("frame written, leap month set", write_frames, sizes[i]);
-    for (k = 0; k < 4; k++)
-        for (i = 0; i < 4; i++) {
-            prepare(k, sizes[i]);
-            measure(readings[k], read_frames, sizes[i]);
-            same(sizes[i]);
-        }
+    write_all(0, leap_month, leap_sign, 6412320 - 20000, 1000);
+    for (i = 0; i < 3; i++)
+        measure("written, leap month set", write_frames, sizes[i]);
+
+    for (k = 0; k < 4; k++) {
+        write_all(readings[k].kind, readings[k].month, readings[k].sign, readings[k].minute, 1000);
+        for (f = 0; f < 1000 && readings[k].inverted; f++)
+            input[f * 60 + 40 + f % 7] ^= 1;
+        read_all(1000);
+        measure(readings[k].what, read_frames, 1);
+        if (k == 0)
+            measure(readings[k].what, read_frames, 10);
+        measure(readings[k].what, read_frames, 1000);
+    }
+
     prepare_dates();
+    date_all();
     measure("minute to date", make_dates, 0);
+    measure("the same, C for speed alone", make_dates_fast, 0);
     measure("date to minute", make_minutes, 0);
     measure("local date", make_local_dates, 0);
+    printf("\nThe library takes longer than some plain codec in: %s.\n", slower[0] ? slower + 2 : "no row");
     return sink == 1; /* keeps the sums from being dropped */
 }

@@ -2,6 +2,9 @@
  * Straightforward code: parity by masks and the compiler's parity of a word, correction by a table of syndromes, code
  * words by tables and their inverses, bits moved one at a time, the calendar by cycles of four years, and the plan
  * asked anew for each frame.
+ *
+ * PLAIN names the codec that this file makes and PLAIN_LABEL is its column's heading, so that one program can hold it
+ * several times, each built by another compiler or with other flags.
  */
 #include "plain.h"
 
@@ -48,7 +51,7 @@ static uint32_t year_start(uint32_t year)
     return year * 365 + (year + 3) / 4;
 }
 
-wwvb_date_reply plain_minute_to_date(uint32_t minute)
+static wwvb_date_reply minute_to_date(uint32_t minute)
 {
     wwvb_date_reply r = {0, 0, 0, 0, 0, 0, 0};
     struct day d;
@@ -67,7 +70,29 @@ wwvb_date_reply plain_minute_to_date(uint32_t minute)
     return r;
 }
 
-wwvb_date_reply plain_local_date(uint32_t minute, uint32_t state, int32_t offset, uint32_t hour)
+/* The same for speed alone, as Neri and Schneider do it: years from March on, quotients in place of tables and branches. */
+static wwvb_date_reply fast_minute_to_date(uint32_t minute)
+{
+    wwvb_date_reply r = {0, 0, 0, 0, 0, 0, 0};
+    uint32_t quarters, months, after;
+
+    if (minute >= WWVB_MINUTES) {
+        r.refusal = WWVB_MINUTE_TOO_LARGE;
+        return r;
+    }
+    quarters = 4 * (minute / 1440 + 1401) + 3; /* from 1996-03-01 */
+    months = 2141 * (quarters % 1461 / 4) + 197913;
+    after = quarters % 1461 / 4 >= 306;
+    r.year = 1996 + quarters / 1461 + after;
+    r.month = months / 65536 - 12 * after;
+    r.day = months % 65536 / 2141 + 1;
+    r.hour = minute % 1440 / 60;
+    r.minute = minute % 60;
+    r.weekday = minute / 1440 % 7;
+    return r;
+}
+
+static wwvb_date_reply local_date(uint32_t minute, uint32_t state, int32_t offset, uint32_t hour)
 {
     wwvb_date_reply r = {0, 0, 0, 0, 0, 0, 0};
     int32_t in_day = (int32_t)(minute % 1440), change = 60 * (int32_t)hour - offset, local;
@@ -82,7 +107,7 @@ wwvb_date_reply plain_local_date(uint32_t minute, uint32_t state, int32_t offset
     if (state == 3 || (state == 2 && in_day >= change) || (state == 1 && in_day < change - 60))
         local += 60;
     if (local >= 0)
-        return plain_minute_to_date((uint32_t)local);
+        return minute_to_date((uint32_t)local);
     r.year = 1999;
     r.month = 12;
     r.day = 31;
@@ -92,7 +117,7 @@ wwvb_date_reply plain_local_date(uint32_t minute, uint32_t state, int32_t offset
     return r;
 }
 
-wwvb_minute_reply plain_date_to_minute(uint32_t year, uint32_t month, uint32_t day, uint32_t hour, uint32_t minute)
+static wwvb_minute_reply date_to_minute(uint32_t year, uint32_t month, uint32_t day, uint32_t hour, uint32_t minute)
 {
     wwvb_minute_reply r = {WWVB_NOT_A_DATE, 0};
     const uint16_t *starts = month_starts[year % 4 == 0];
@@ -244,9 +269,9 @@ static size_t write_frame(const struct plan *p, uint32_t minute, uint8_t *out)
     return length;
 }
 
-wwvb_write_reply plain_write_recording(uint32_t kind, uint32_t spring, uint32_t autumn, uint32_t leap_month,
-                                       int32_t leap_sign, uint32_t notice, uint32_t first, uint32_t count,
-                                       uint8_t *out, size_t out_length)
+static wwvb_write_reply write_recording(uint32_t kind, uint32_t spring, uint32_t autumn, uint32_t leap_month,
+                                        int32_t leap_sign, uint32_t notice, uint32_t first, uint32_t count,
+                                        uint8_t *out, size_t out_length)
 {
     struct plan p = {kind, spring, autumn, leap_month, leap_sign, notice};
     wwvb_write_reply r = {0, 0};
@@ -337,7 +362,7 @@ static unsigned read_frame(const uint8_t *f, size_t left, uint8_t *entry, uint32
     return WWVB_OK;
 }
 
-wwvb_read_reply plain_read_recording(const uint8_t *bits, size_t bits_length, uint8_t *entries, size_t entries_length)
+static wwvb_read_reply read_recording(const uint8_t *bits, size_t bits_length, uint8_t *entries, size_t entries_length)
 {
     wwvb_read_reply r = {0, 0, 0};
     uint32_t due = 0;
@@ -360,3 +385,7 @@ wwvb_read_reply plain_read_recording(const uint8_t *bits, size_t bits_length, ui
     }
     return r;
 }
+
+const struct codec PLAIN = {
+    PLAIN_LABEL, write_recording, read_recording, minute_to_date, fast_minute_to_date, date_to_minute, local_date,
+};

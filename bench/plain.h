@@ -4,12 +4,24 @@
 
 #include "wwvb.h"
 
-wwvb_date_reply plain_minute_to_date(uint32_t minute);
-wwvb_minute_reply plain_date_to_minute(uint32_t year, uint32_t month, uint32_t day, uint32_t hour, uint32_t minute);
-wwvb_date_reply plain_local_date(uint32_t minute, uint32_t state, int32_t offset, uint32_t hour);
-wwvb_write_reply plain_write_recording(uint32_t kind, uint32_t spring, uint32_t autumn, uint32_t leap_month,
-                                       int32_t leap_sign, uint32_t notice, uint32_t first, uint32_t count,
-                                       uint8_t *out, size_t out_length);
-wwvb_read_reply plain_read_recording(const uint8_t *bits, size_t bits_length, uint8_t *entries, size_t entries_length);
+#ifndef PLAIN
+#define PLAIN plain
+#define PLAIN_LABEL "plain C"
+#endif
+
+/* The calls of the library that are measured. */
+struct codec {
+    const char *label;
+    wwvb_write_reply (*write_recording)(uint32_t kind, uint32_t spring, uint32_t autumn, uint32_t leap_month,
+                                        int32_t leap_sign, uint32_t notice, uint32_t first, uint32_t count,
+                                        uint8_t *out, size_t out_length);
+    wwvb_read_reply (*read_recording)(const uint8_t *bits, size_t bits_length, uint8_t *entries, size_t entries_length);
+    wwvb_date_reply (*minute_to_date)(uint32_t minute);
+    wwvb_date_reply (*fast_minute_to_date)(uint32_t minute); /* written for speed alone; of the library, the same call */
+    wwvb_minute_reply (*date_to_minute)(uint32_t year, uint32_t month, uint32_t day, uint32_t hour, uint32_t minute);
+    wwvb_date_reply (*local_date)(uint32_t minute, uint32_t state, int32_t offset, uint32_t hour);
+};
+
+extern const struct codec PLAIN;
 
 #endif

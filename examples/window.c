@@ -1,7 +1,23 @@
 /*
- * window: what a chat server does with the recordings that come with its messages. A pickup is a recording that a
- * client's radio took; its minute is that of its first frame. The second of two pickups is a resend where its minute is
- * that of the first, or less than ten minutes later. A pickup whose reading was refused is not judged by.
+ * window: is a pickup order fresh, or an earlier order sent again? A chat server judges by the
+ * recordings that come with its messages. A pickup is a recording that a client's radio took; its
+ * minute is that of its first frame. Two pickups less than ten minutes apart are one order,
+ * whichever of them is the earlier.
+ *
+ * The answer is one of three:
+ *   resend    the order is known already: drop it
+ *   fresh     a new order: send a truck
+ *   not sure  hold the order and read again, with more minutes; never send a truck on it
+ *
+ * A pickup counts only if its recording was read completely and at least one of its frames has
+ * place 0, that is, had nothing to repair. Two inverted bits of a time word look like one inverted
+ * bit of another minute far away, and they are repaired to it. But two minutes' words differ in at
+ * least three places, so such a frame never has place 0, and the minutes of a recording count up by
+ * one. In a recording read completely from a frame's first bit, a false minute
+ * takes two inverted time bits in every frame, and three in each frame with place 0.
+ *
+ * A pickup begins at a frame's first bit: the client's radio finds it as receive.c does, with two
+ * frames in order.
  *
  * cc window.c $(pkg-config --cflags --libs wwvb) -o window
  */
@@ -9,80 +25,133 @@
 #include <string.h>
 #include <wwvb.h>
 
-#define WINDOW 10 /* minutes */
+#define WINDOW 10u /* minutes */
+#define FRAMES 16u /* of the longest pickup */
+
+enum verdict { RESEND, FRESH, NOT_SURE };
 
 struct pickup {
     const char *name;
-    uint8_t bits[WWVB_MAX_FRAME * 3];
+    uint8_t bits[WWVB_MAX_FRAME * FRAMES];
     size_t length;
 };
 
-/* The minute of a pickup. Gives 0 where nothing is to be judged by, and says why. */
-static int minute_of(const struct pickup *p, uint32_t *minute)
+/* The minute of a pickup. Returns 1, or 0 if the pickup does not count, and says why. */
+static int minute_of(const struct pickup *p, uint32_t *minute, const char **why)
 {
-    static uint8_t entries[WWVB_MAX_COUNT * WWVB_ENTRY_SIZE];
+    uint8_t entries[FRAMES * WWVB_ENTRY_SIZE];
     wwvb_read_reply r = wwvb_read_recording(p->bits, p->length, entries, sizeof entries);
-    const uint8_t *m = entries + WWVB_ENTRY_MINUTE;
+    size_t i;
 
     if (r.refusal != WWVB_OK) {
-        printf("not judged: %s is refused, %u, behind %u good frames\n", p->name, (unsigned)r.refusal,
-               (unsigned)r.entries);
+        *why = wwvb_refusal_text((uint32_t)r.refusal);
         return 0;
     }
     if (r.entries == 0) {
-        printf("not judged: %s has no frame\n", p->name);
+        *why = "It has no frame.";
         return 0;
     }
-    *minute = (uint32_t)m[0] << 24 | (uint32_t)m[1] << 16 | (uint32_t)m[2] << 8 | m[3];
-    return 1;
+    for (i = 0; i < r.entries; i++) {
+        if (wwvb_entry_at(entries, i).place == 0) {
+            *minute = wwvb_entry_at(entries, 0).minute;
+            return 1;
+        }
+    }
+    *why = "Every frame was repaired.";
+    return 0;
 }
 
-static void judge(const struct pickup *first, const struct pickup *second)
+/* Judges the second of two pickups by the first. `apart` is the distance in minutes; not sure,
+   `which` is the pickup that does not count, and `why` the reason. */
+static enum verdict judge(const struct pickup *first, const struct pickup *second, uint32_t *apart,
+                          const struct pickup **which, const char **why)
 {
     uint32_t a, b;
 
-    if (!minute_of(first, &a) || !minute_of(second, &b))
-        return;
-    if (b < a)
-        printf("new: %s is %u minutes earlier than %s\n", second->name, (unsigned)(a - b), first->name);
-    else
-        printf("%s: %s is %u minutes later than %s\n", b - a < WINDOW ? "resend" : "new", second->name,
-               (unsigned)(b - a), first->name);
+    *which = first;
+    if (!minute_of(first, &a, why))
+        return NOT_SURE;
+    *which = second;
+    if (!minute_of(second, &b, why))
+        return NOT_SURE;
+    *apart = a < b ? b - a : a - b;
+    return *apart < WINDOW ? RESEND : FRESH;
 }
 
-/* Three frames from a minute on, by the plan of the United States; this stands for the radio. */
-static struct pickup take(const char *name, uint32_t minute)
+static void say(const struct pickup *first, const struct pickup *second)
+{
+    const struct pickup *which = NULL;
+    const char *why = NULL;
+    uint32_t apart = 0;
+
+    switch (judge(first, second, &apart, &which, &why)) {
+    case RESEND:
+        printf("resend: %s is %u minutes from %s\n", second->name, (unsigned)apart, first->name);
+        break;
+    case FRESH:
+        printf("fresh: %s is %u minutes from %s\n", second->name, (unsigned)apart, first->name);
+        break;
+    case NOT_SURE:
+        printf("not sure, hold the order: %s does not count. %s\n", which->name, why);
+        break;
+    }
+}
+
+/* Frames from a minute on, by the plan of the United States; this stands for the radio. A writing
+   that is refused leaves a pickup without bits, which does not count. */
+static struct pickup take(const char *name, uint32_t minute, uint32_t frames)
 {
     struct pickup p;
+    wwvb_plan plan = wwvb_us_plan();
 
     memset(&p, 0, sizeof p);
     p.name = name;
-    p.length = wwvb_write_recording(0, 10, 37, 0, 0, 0, minute, 3, p.bits, sizeof p.bits).bits;
+    p.length = wwvb_write(&plan, minute, frames, p.bits, sizeof p.bits).bits;
     return p;
 }
 
 int main(void)
 {
-    uint32_t noon = wwvb_date_to_minute(2012, 7, 4, 12, 0).minute;
-    struct pickup first = take("the first", noon), next;
+    wwvb_minute_reply noon = wwvb_date_to_minute(2012, 7, 4, 12, 0);
+    struct pickup first, next;
 
-    next = take("one 9 minutes on", noon + 9);
-    judge(&first, &next);
-    next.bits[46] ^= 1; /* one bit of its time word is heard wrong, and repaired */
-    next.bits[19] ^= 1; /* its echo is heard wrong too, and the entry's echo byte is 0 */
-    judge(&first, &next);
-    next = take("one 10 minutes on", noon + 10);
-    judge(&first, &next);
-    next = take("an old one", noon - 1);
-    judge(&first, &next);
-    next = take("a noisy one", noon + 3);
+    if (noon.refusal != WWVB_OK) {
+        fprintf(stderr, "window: %s\n", wwvb_refusal_text(noon.refusal));
+        return 1;
+    }
+    first = take("the first", noon.minute, 3);
+    next = take("one 9 minutes later", noon.minute + 9, 3);
+    say(&first, &next);
+    next.bits[46] ^= 1; /* the last bit of a time word is heard wrong, and repaired */
+    next.bits[19] ^= 1; /* the echo is heard wrong too, and the entry's echo byte is 0 */
+    say(&first, &next);
+    next = take("one 10 minutes later", noon.minute + 10, 3);
+    say(&first, &next);
+    next = take("one 9 minutes earlier", noon.minute - 9, 3);
+    say(&first, &next);
+    next = take("one 10 minutes earlier", noon.minute - 10, 3);
+    say(&first, &next);
+
+    next = take("one with two bits inverted in its only frame", noon.minute + 3, 1);
+    next.bits[44] ^= 1; /* two bits of the time word: it is read as a minute far away */
+    next.bits[45] ^= 1;
+    say(&first, &next);
+    next = take("one with two bits inverted in one of three frames", noon.minute + 3, 3);
+    next.bits[44] ^= 1;
+    next.bits[45] ^= 1;
+    say(&first, &next);
+    next = take("one with noise", noon.minute + 3, 3);
     next.bits[60 + 2] ^= 1; /* the sync word of its second frame */
-    judge(&first, &next);
-    next = take("one cut short", noon + 3);
+    say(&first, &next);
+    next = take("one cut short", noon.minute + 3, 1);
     next.length = 58;
-    judge(&first, &next);
-    next.length = 0;
+    say(&first, &next);
     next.name = "an empty one";
-    judge(&first, &next);
+    next.length = 0;
+    say(&first, &next);
+    if (fflush(stdout) != 0) {
+        fprintf(stderr, "window: the output cannot be written\n");
+        return 1;
+    }
     return 0;
 }

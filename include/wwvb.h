@@ -1,17 +1,30 @@
 /*
- * wwvb.h: the WWVB phase code at one bit a second: recordings of time frames, written and read, dates and local dates.
+ * wwvb.h: the WWVB phase code at one bit a second: recordings of time frames, written and read,
+ * dates and local dates. C99 or later, C++11 or later.
+ * SPDX-License-Identifier: Apache-2.0
  *
- * A bit is a byte of value 0 or 1, the first sent first. A frame is one minute: 60 bits, or 59 or 61 in the last minute
- * of a month with a leap second. A minute number counts minutes from 2000-01-01 00:00 UTC, leap seconds ignored.
+ * A bit is a byte of value 0 or 1, the first sent first. A frame is one minute: 60 bits, or 59 or
+ * 61 in the last minute of a month with a leap second. A minute number counts minutes from
+ * 2000-01-01 00:00 UTC, leap seconds ignored.
  *
- * Every call takes any value of its arguments: nothing is undefined but a buffer that breaks these terms:
- *   - a pointer is valid for as many bytes as its length says; a pointer with length 0 may be NULL;
+ * Every call takes any value of its arguments. Nothing is undefined but a buffer that breaks these
+ * terms:
+ *   - a pointer is valid for as many bytes as its length says; with length 0 it may be NULL;
  *   - a buffer that a call writes overlaps no other buffer of that call;
  *   - no other thread touches the buffers during the call.
- * A length of 0 is an ordinary input. The library allocates nothing, keeps no state, and calls no other library.
+ * A length of 0 is an ordinary input. The library allocates nothing, keeps no state and calls no
+ * other library. Any number of threads may call it at the same time.
  *
- * Each call asks its questions in the order of their numbers; the first that gets a no is the refusal, and no later one
- * is asked. WWVB_OK, 0, says that all got a yes.
+ * Each call makes its checks in the order of their numbers. The first check that fails gives the
+ * refusal, and later ones are not made. WWVB_OK, 0, means that all passed.
+ *
+ * Which minutes to trust: in a recording read completely from a frame's first bit, a false minute
+ * takes two inverted time bits in every frame, and three in each frame with place 0. Judge by a
+ * minute only if the reading is complete (refusal 0) and at least one of its frames has place 0.
+ * Where the start was searched for, use two frames in order: LIVE INPUT in wwvb(3) says how.
+ *
+ * The library has six calls. Everything else is static inline in this file: structs for plans and
+ * entries, names and texts of refusals.
  */
 #ifndef WWVB_H
 #define WWVB_H
@@ -19,9 +32,35 @@
 #include <stddef.h>
 #include <stdint.h>
 
+/*
+ * The version. A break raises MAJOR, and with it the soname of the shared library (libwwvb.so.0).
+ * A break is another size or layout of an entry or a reply, another number for a refusal, another
+ * signature of a call, or another answer of a call. Added calls, names and refusals of added calls
+ * raise MINOR, and so do fields added to the end of wwvb_plan or wwvb_entry. The library itself
+ * takes neither, so it is enough to compile again. Anything else raises PATCH.
+ */
+#define WWVB_VERSION_MAJOR 0
+#define WWVB_VERSION_MINOR 4
+#define WWVB_VERSION_PATCH 0
+#define WWVB_VERSION "0.4.0"
+
+/* A result that must not be ignored; the compiler warns where it can. */
+#if (defined(__cplusplus) && __cplusplus >= 201703L) || \
+    (defined(__STDC_VERSION__) && __STDC_VERSION__ >= 202311L)
+#define WWVB_MUST_USE [[nodiscard]]
+#elif defined(__GNUC__)
+#define WWVB_MUST_USE __attribute__((warn_unused_result))
+#else
+#define WWVB_MUST_USE
+#endif
+
 #ifdef __cplusplus
 extern "C" {
 #endif
+
+/* ------------------------------------------------------------------------------------------------
+ * Limits
+ */
 
 /* Minutes are 0 to WWVB_MINUTES - 1, 2099-12-31 23:59. */
 #define WWVB_MINUTES 52596000u
@@ -35,44 +74,139 @@ extern "C" {
 /* Bytes of an entry. */
 #define WWVB_ENTRY_SIZE 12u
 
-/* The refusals, and the calls that give them. */
+/* ------------------------------------------------------------------------------------------------
+ * Refusals
+ */
+
+/* Writing is wwvb_write_recording and wwvb_write; reading is wwvb_read_frame and
+   wwvb_read_recording, which makes checks 5 to 14 for each frame. */
 enum wwvb_refusal {
-    WWVB_OK = 0,
-    WWVB_ILLEGAL_PLAN = 1,    /* writing: the plan is not legal */
-    WWVB_BAD_COUNT = 2,       /* writing: the count is not 1 to 1,000 */
-    WWVB_MINUTE_TOO_LARGE = 3, /* writing: the last minute is past 52,595,999; minute to date, local date: the
-                                  minute is */
-    WWVB_NO_BIT_SPACE = 4,    /* writing: the buffer does not hold all the bits */
-    WWVB_NO_ENTRY_SPACE = 5,  /* reading: fewer than 12 entry bytes are free */
-    WWVB_TOO_SHORT = 6,       /* reading: fewer than 59 bytes are left */
-    WWVB_NOT_BITS = 7,        /* reading: one of the first 59 bytes is not 0 or 1 */
-    WWVB_BAD_SYNC = 8,        /* reading: the sync word is wrong */
-    WWVB_BAD_STATE = 9,       /* reading: the state word is illegal */
+    WWVB_OK = 0,               /* every check passed */
+    WWVB_ILLEGAL_PLAN = 1,     /* writing: the plan is not legal */
+    WWVB_BAD_COUNT = 2,        /* writing: the count is not 1 to 1,000 */
+    WWVB_MINUTE_TOO_LARGE = 3, /* writing: the last minute is past 52,595,999;
+                                  minute to date, local date: the minute is */
+    WWVB_NO_BIT_SPACE = 4,     /* writing: the buffer does not hold all the bits */
+    WWVB_NO_ENTRY_SPACE = 5,   /* reading: fewer than 12 entry bytes are free */
+    WWVB_TOO_SHORT = 6,        /* reading: fewer than 59 bits are left */
+    WWVB_NOT_BITS = 7,         /* reading: one of the first 59 bytes is not 0 or 1 */
+    WWVB_BAD_SYNC = 8,         /* reading: the sync word is wrong */
+    WWVB_BAD_STATE = 9,        /* reading: the state word is illegal */
     WWVB_BAD_NEXT_CHANGE = 10, /* reading: the next-change word is not assigned */
-    WWVB_BAD_MINUTE = 11,     /* reading: the minute read is past 52,595,999 */
-    /* 12 is given no more */
-    WWVB_BAD_LENGTH = 13,     /* reading: too few bytes for the length called for (one frame alone: not exactly so
-                                 many), or one of those behind byte 58 is not 0 */
-    WWVB_OUT_OF_ORDER = 14,   /* reading a recording: the minute is not one more than that of the frame before */
-    WWVB_NOT_A_DATE = 15,     /* date to minute: no real date of 2000 to 2099 */
-    WWVB_BAD_SETTING = 16     /* local date: the state is above 3, the offset not -600 to -240, or the hour not 1 to 3 */
+    WWVB_BAD_MINUTE = 11,      /* reading: the minute read is past 52,595,999 */
+    /* 12 is no longer returned */
+    WWVB_BAD_LENGTH = 13,      /* reading: fewer bits are left than the frame has, or a byte of it
+                                  after bit 58 is not 0; wwvb_read_frame: also more bits */
+    WWVB_OUT_OF_ORDER = 14,    /* reading a recording: the minute is not one more than that of the
+                                  frame before */
+    WWVB_NOT_A_DATE = 15,      /* date to minute: no real date of 2000 to 2099 */
+    WWVB_BAD_SETTING = 16      /* local date: the state is above 3, the offset not -600 to -240, or
+                                  the hour not 1 to 3 */
 };
+
+/* Each refusal with a sentence for people. A new refusal takes a line above and a line here. */
+#define WWVB_REFUSALS(X) \
+    X(WWVB_OK, "The call was accepted.") \
+    X(WWVB_ILLEGAL_PLAN, "The plan is not legal.") \
+    X(WWVB_BAD_COUNT, "The number of frames is not 1 to 1,000.") \
+    X(WWVB_MINUTE_TOO_LARGE, "The minute is after 2099-12-31 23:59.") \
+    X(WWVB_NO_BIT_SPACE, "The buffer does not hold all the bits.") \
+    X(WWVB_NO_ENTRY_SPACE, "The buffer has no space for another entry.") \
+    X(WWVB_TOO_SHORT, "Fewer than 59 bits are left, and a frame has at least 59.") \
+    X(WWVB_NOT_BITS, "A byte of the frame is neither 0 nor 1.") \
+    X(WWVB_BAD_SYNC, "The sync word of the frame is wrong.") \
+    X(WWVB_BAD_STATE, "The state word of the frame is illegal.") \
+    X(WWVB_BAD_NEXT_CHANGE, "The next-change word of the frame is not assigned.") \
+    X(WWVB_BAD_MINUTE, "The minute of the frame is after 2099-12-31 23:59.") \
+    X(WWVB_BAD_LENGTH, "The frame has the wrong number of bits, or one after bit 58 is not 0.") \
+    X(WWVB_OUT_OF_ORDER, "The minute is not one more than that of the frame before.") \
+    X(WWVB_NOT_A_DATE, "There is no such date from 2000 to 2099.") \
+    X(WWVB_BAD_SETTING, "The daylight state, the offset or the change hour is out of range.")
+
+/* The name of a refusal as it stands above, or the words unknown refusal for any other number. */
+static inline const char *wwvb_refusal_name(uint32_t refusal)
+{
+#define WWVB_REFUSAL_NAME(name, text) case name: return #name;
+    switch (refusal) {
+    WWVB_REFUSALS(WWVB_REFUSAL_NAME)
+    default: return "unknown refusal";
+    }
+#undef WWVB_REFUSAL_NAME
+}
+
+/* What a refusal says, in one sentence; a sentence that says so for any other number. */
+static inline const char *wwvb_refusal_text(uint32_t refusal)
+{
+#define WWVB_REFUSAL_TEXT(name, text) case name: return text;
+    switch (refusal) {
+    WWVB_REFUSALS(WWVB_REFUSAL_TEXT)
+    default: return "This number is not a refusal.";
+    }
+#undef WWVB_REFUSAL_TEXT
+}
+
+/* ------------------------------------------------------------------------------------------------
+ * Numbers of plans and entries
+ */
+
+/* The kinds of a plan. */
+enum wwvb_kind {
+    WWVB_KIND_ROWS = 0,      /* daylight time by a spring row and an autumn row */
+    WWVB_KIND_NONE = 1,      /* no daylight time */
+    WWVB_KIND_WHOLE_YEAR = 2 /* daylight time the whole year */
+};
+
+/* The daylight states of an entry: dst_on[1] dst_on[0] as a number. */
+enum wwvb_daylight {
+    WWVB_DAYLIGHT_OFF = 0,    /* standard time */
+    WWVB_DAYLIGHT_ENDS = 1,   /* daylight time ends today */
+    WWVB_DAYLIGHT_BEGINS = 2, /* daylight time begins today */
+    WWVB_DAYLIGHT_ON = 3      /* daylight time */
+};
+
+/* The leap states of an entry: the leap second at the end of the month. */
+enum wwvb_leap {
+    WWVB_LEAP_NONE = 0,
+    WWVB_LEAP_NEGATIVE = 1,
+    WWVB_LEAP_POSITIVE = 2
+};
+
+/* The rows of the next-change word (NIST Table 8) that have a name: 1 to 24 are changes in spring,
+   25 to 48 changes in autumn. */
+enum wwvb_row {
+    WWVB_US_SPRING_ROW = 10,   /* second Sunday in March at 2 o'clock */
+    WWVB_US_AUTUMN_ROW = 37,   /* first Sunday in November at 2 o'clock */
+    WWVB_ROW_OTHER_TIME = 49,  /* the next change is at a time that no row names */
+    WWVB_ROW_NO_DAYLIGHT = 50, /* no daylight time */
+    WWVB_ROW_WHOLE_YEAR = 51   /* daylight time the whole year */
+};
+
+/* The local hour of a row's change: 1, 2 or 3, or 0 for rows 49 to 51 and any number that is no
+   row. */
+static inline uint32_t wwvb_change_hour(uint32_t row)
+{
+    return row >= 1 && row <= 48 ? (row - 1) % 24 / 8 + 1 : 0u;
+}
 
 /* Where the fields of an entry stand. An entry has 12 bytes, and the last is 0. */
 enum wwvb_entry_byte {
     WWVB_ENTRY_MINUTE = 0,   /* 4 bytes, the most significant first */
     WWVB_ENTRY_LENGTH = 4,   /* bits of the frame: 59, 60 or 61 */
-    WWVB_ENTRY_DAYLIGHT = 5, /* dst_on[1] dst_on[0] as a number: 0 standard time, 2 begins today, 3 daylight time,
-                                1 ends today */
-    WWVB_ENTRY_LEAP = 6,     /* leap second at the end of the month: 0 none, 1 negative, 2 positive */
-    WWVB_ENTRY_ROW = 7,      /* row of the next-change word, 1 to 51 (NIST Table 8) */
+    WWVB_ENTRY_DAYLIGHT = 5, /* enum wwvb_daylight */
+    WWVB_ENTRY_LEAP = 6,     /* enum wwvb_leap */
+    WWVB_ENTRY_ROW = 7,      /* row of the next-change word, 1 to 51 */
     WWVB_ENTRY_NOTICE = 8,   /* 0 or 1 */
     WWVB_ENTRY_PLACE = 9,    /* place of the time word that was repaired, 1 to 31, or 0 for none */
-    WWVB_ENTRY_ECHO = 10     /* 1 where bit 19 equals time[0] of the minute read, else 0; a frame is
+    WWVB_ENTRY_ECHO = 10     /* 1 if bit 19 equals time[0] of the minute read, else 0; a frame is
                                 accepted either way */
 };
 
-/* The refusal (0 or 3; local date: 0, 3 or 16), and the date; refused, every other field is 0. Weekday 0 is Saturday, 6 is Friday. */
+/* ------------------------------------------------------------------------------------------------
+ * Replies
+ */
+
+/* The refusal (0 or 3; local date: 0, 3 or 16), and the date; refused, every other field is 0.
+   Weekday 0 is Saturday, 6 is Friday. */
 typedef struct wwvb_date_reply {
     uint32_t refusal;
     uint32_t year;
@@ -95,66 +229,191 @@ typedef struct wwvb_write_reply {
     size_t bits;
 } wwvb_write_reply;
 
-/* The number of entries, the bits of the frames that they tell of, and the refusal (0, 5 to 11, 13 or 14). Refused,
-   entries and used are those of the frames before the refused one, which begins at bits[used]. */
+/* The number of entries, the bits of the frames that they describe, and the refusal (0, 5 to 11,
+   13 or 14). Refused, entries and used are those of the frames before the refused one, which
+   begins at bits[used]. */
 typedef struct wwvb_read_reply {
     size_t entries;
     size_t used;
     size_t refusal;
 } wwvb_read_reply;
 
-/* The date of a minute number. Refusal: 3. */
-wwvb_date_reply wwvb_minute_to_date(uint32_t minute);
-
-/* The minute number of a date. Year 2000 to 2099, month and day from 1, hour and minute from 0. Refusal: 15. */
-wwvb_minute_reply wwvb_date_to_minute(uint32_t year, uint32_t month, uint32_t day, uint32_t hour, uint32_t minute);
-
-/*
- * The local date of a minute number, for a reader of local time:
- *   state   the minute's daylight state, as an entry has it (WWVB_ENTRY_DAYLIGHT), 0 to 3
- *   offset  standard time less UTC in minutes, -600 to -240; it need not be whole hours
- *   hour    the local hour at which the clocks change, 1 to 3
- * Daylight time is standard time plus 60 minutes: in state 3 all day, in state 2 from `hour` of standard time on, in state 1
- * until `hour` of daylight time, in state 0 never. The state is not held against any plan. Year, month, day, hour, minute and
- * weekday are all local; the first minutes of 2000 fall on 1999-12-31, a Friday. Refusals: 3, then 16.
+/* ------------------------------------------------------------------------------------------------
+ * The calls
  */
-wwvb_date_reply wwvb_local_date(uint32_t minute, uint32_t state, int32_t offset, uint32_t hour);
+
+/* The date of a minute number. Refusal: WWVB_MINUTE_TOO_LARGE (3). */
+WWVB_MUST_USE wwvb_date_reply wwvb_minute_to_date(uint32_t minute);
+
+/* The minute number of a date. Year 2000 to 2099, month and day from 1, hour and minute from 0.
+   Refusal: WWVB_NOT_A_DATE (15). */
+WWVB_MUST_USE wwvb_minute_reply wwvb_date_to_minute(uint32_t year, uint32_t month, uint32_t day,
+                                                    uint32_t hour, uint32_t minute);
 
 /*
- * Writes the frames of `count` minutes from `first` on, each directly behind the one before, by a plan of six numbers:
- *   kind        0 daylight time by the two rows; 1 none; 2 the whole year
- *   spring      kind 0: row 1 to 24; else 0
- *   autumn      kind 0: row 25 to 48; else 0
- *   leap_month  month with a leap second at its end, January 2000 is 0, to 1199; 0 where the sign is 0
+ * The local date of a minute number:
+ *   state   the minute's daylight state, as an entry has it, 0 to 3
+ *   offset  standard time less UTC in minutes, -600 to -240; it need not be whole hours
+ *   hour    the local hour at which the clocks change on a day of state 1 or 2, 1 to 3
+ * Daylight time is standard time plus 60 minutes: in state 3 all day, in state 2 from `hour` of
+ * standard time on, in state 1 until `hour` of daylight time, in state 0 never. The state is not
+ * checked against any plan. Year, month, day, hour, minute and weekday are all local; the first
+ * minutes of 2000 fall on 1999-12-31, a Friday. Refusals: WWVB_MINUTE_TOO_LARGE (3), then
+ * WWVB_BAD_SETTING (16).
+ */
+WWVB_MUST_USE wwvb_date_reply wwvb_local_date(uint32_t minute, uint32_t state, int32_t offset,
+                                              uint32_t hour);
+
+/*
+ * Writes the frames of `count` minutes from `first` on, each directly after the one before, by a
+ * plan of six numbers:
+ *   kind        enum wwvb_kind
+ *   spring      WWVB_KIND_ROWS: row 1 to 24; else 0
+ *   autumn      WWVB_KIND_ROWS: row 25 to 48; else 0
+ *   leap_month  month with a leap second at its end, 0 (January 2000) to 1199; 0 if the sign is 0
  *   leap_sign   -1, 0 or +1
  *   notice      0 or 1
- * Refusals: 1 to 4; the bytes that a refused writing would need are not told.
- * After the call `out` holds the bits from out[0] on, and every byte behind the last bit is as before; refused, every
- * byte of `out` is as before. `out_length` of WWVB_MAX_RECORDING is always enough.
+ * Refusals: WWVB_ILLEGAL_PLAN (1), WWVB_BAD_COUNT (2), WWVB_MINUTE_TOO_LARGE (3) for the last
+ * minute, WWVB_NO_BIT_SPACE (4). A refused writing does not report how many bytes it needs; an
+ * `out_length` of WWVB_MAX_RECORDING is always enough.
+ * After the call `out` holds the bits from out[0] on, and every byte after the last bit is as
+ * before. Refused, every byte of `out` is as before.
  */
-wwvb_write_reply wwvb_write_recording(uint32_t kind, uint32_t spring, uint32_t autumn, uint32_t leap_month,
-                                      int32_t leap_sign, uint32_t notice, uint32_t first, uint32_t count,
-                                      uint8_t *out, size_t out_length);
+WWVB_MUST_USE wwvb_write_reply wwvb_write_recording(uint32_t kind, uint32_t spring, uint32_t autumn,
+                                                    uint32_t leap_month, int32_t leap_sign,
+                                                    uint32_t notice, uint32_t first, uint32_t count,
+                                                    uint8_t *out, size_t out_length);
 
 /*
- * Reads one frame, which is all of `bits`. Gives the refusal: 0, 5 to 11, or 13.
- * After the call the first 12 bytes of `entry` are the frame's entry, and every byte behind them is as before; refused,
- * every byte of `entry` is as before. Bits 19, 29 and 39 may be 0 or 1: bit 19, the echo, changes the entry's echo byte
- * alone, and bits 29 and 39 change nothing.
- * Of a frame that wwvb_write_recording writes any one bit may be inverted: in the time word (bits 13 to 18, 20 to 28, 30 to 38
- * and 40 to 46) the entry is as sent, and its place byte tells the place; at 19, 29 or 39 as just said; at 49 the notice byte
- * alone differs; in the sync word (0 to 12) the refusal is 8, in the state word (47, 48, 50 to 52) 9, in the next-change word
- * (53 to 58) 10, and behind bit 58 it is 13.
+ * Reads one frame, which is all of `bits`. Returns the refusal: WWVB_OK, WWVB_NO_ENTRY_SPACE (5)
+ * to WWVB_BAD_MINUTE (11), or WWVB_BAD_LENGTH (13).
+ * After the call the first 12 bytes of `entry` are the frame's entry, and every byte after them is
+ * as before. Refused, every byte of `entry` is as before. Bits 19, 29 and 39 may be 0 or 1. Bit
+ * 19, the echo, changes the entry's echo byte alone, and bits 29 and 39 change nothing.
+ * Of a frame that wwvb_write_recording writes any one bit may be inverted. Then the result is:
+ *   time word (13 to 18, 20 to 28, 30 to 38, 40 to 46)  the entry as sent, with the place repaired
+ *   19, 29 or 39                                        as said above
+ *   49                                                  the notice byte alone differs
+ *   sync word (0 to 12)                                 refusal 8
+ *   state word (47, 48, 50 to 52)                       refusal 9
+ *   next-change word (53 to 58)                         refusal 10
+ *   after bit 58                                        refusal 13
  */
-uint32_t wwvb_read_frame(const uint8_t *bits, size_t bits_length, uint8_t *entry, size_t entry_length);
+WWVB_MUST_USE uint32_t wwvb_read_frame(const uint8_t *bits, size_t bits_length, uint8_t *entry,
+                                       size_t entry_length);
 
 /*
- * Reads the frames of a recording, which begins at a frame's first bit, until no bits are left or a frame is refused.
- * No bits at all give no entries and 0. Refusals: 5 to 11, 13 and 14. Bits 19, 29 and 39 of each frame may be 0 or 1 as above.
- * After the call `entries` holds the entries read, 12 bytes each, from entries[0] on, and every byte behind them is as
- * before, refused or not.
+ * Reads the frames of a recording, which begins at a frame's first bit, until no bits are left or
+ * a frame is refused. No bits at all give no entries and WWVB_OK. Refusals: those of
+ * wwvb_read_frame, and WWVB_OUT_OF_ORDER (14). Bits 19, 29 and 39 of each frame may be 0 or 1 as
+ * above.
+ * After the call `entries` holds the entries read, 12 bytes each, from entries[0] on, and every
+ * byte after them is as before, refused or not.
+ * The first frame of a call is compared with no other: a call has no memory of the call before.
+ * Bits that come one a second are read by this call too; LIVE INPUT in wwvb(3) says how.
  */
-wwvb_read_reply wwvb_read_recording(const uint8_t *bits, size_t bits_length, uint8_t *entries, size_t entries_length);
+WWVB_MUST_USE wwvb_read_reply wwvb_read_recording(const uint8_t *bits, size_t bits_length,
+                                                  uint8_t *entries, size_t entries_length);
+
+/* ------------------------------------------------------------------------------------------------
+ * Plans and entries as structs
+ *
+ * Fields may be added at the end. Make a plan from one of the two below, or from one that is all 0
+ * (which is not legal until it has rows), and set fields by name.
+ */
+
+/* A plan, as wwvb_write_recording takes it in six numbers. */
+typedef struct wwvb_plan {
+    uint32_t kind;
+    uint32_t spring;
+    uint32_t autumn;
+    uint32_t leap_month;
+    int32_t leap_sign;
+    uint32_t notice;
+} wwvb_plan;
+
+/* A plan with daylight time by two rows, without a leap second or a notice. */
+WWVB_MUST_USE static inline wwvb_plan wwvb_plan_by_rows(uint32_t spring, uint32_t autumn)
+{
+    wwvb_plan plan;
+
+    plan.kind = WWVB_KIND_ROWS;
+    plan.spring = spring;
+    plan.autumn = autumn;
+    plan.leap_month = 0;
+    plan.leap_sign = 0;
+    plan.notice = 0;
+    return plan;
+}
+
+/* The plan of the United States since 2007, without a leap second or a notice. */
+WWVB_MUST_USE static inline wwvb_plan wwvb_us_plan(void)
+{
+    return wwvb_plan_by_rows(WWVB_US_SPRING_ROW, WWVB_US_AUTUMN_ROW);
+}
+
+/* wwvb_write_recording by a plan that is a struct. */
+WWVB_MUST_USE static inline wwvb_write_reply wwvb_write(const wwvb_plan *plan, uint32_t first,
+                                                        uint32_t count, uint8_t *out,
+                                                        size_t out_length)
+{
+    return wwvb_write_recording(plan->kind, plan->spring, plan->autumn, plan->leap_month,
+                                plan->leap_sign, plan->notice, first, count, out, out_length);
+}
+
+/* An entry; the fields are those of enum wwvb_entry_byte. */
+typedef struct wwvb_entry {
+    uint32_t minute;
+    uint32_t length;
+    uint32_t daylight;
+    uint32_t leap;
+    uint32_t row;
+    uint32_t notice;
+    uint32_t place;
+    uint32_t echo;
+} wwvb_entry;
+
+/* The entry at `index`, from 0, of a buffer that a reading filled; `index` is less than the number
+   of entries that it gave. */
+WWVB_MUST_USE static inline wwvb_entry wwvb_entry_at(const uint8_t *entries, size_t index)
+{
+    const uint8_t *e = entries + index * WWVB_ENTRY_SIZE;
+    const uint8_t *m = e + WWVB_ENTRY_MINUTE;
+    wwvb_entry entry;
+
+    entry.minute = m[0];
+    entry.minute = entry.minute << 8 | m[1];
+    entry.minute = entry.minute << 8 | m[2];
+    entry.minute = entry.minute << 8 | m[3];
+    entry.length = e[WWVB_ENTRY_LENGTH];
+    entry.daylight = e[WWVB_ENTRY_DAYLIGHT];
+    entry.leap = e[WWVB_ENTRY_LEAP];
+    entry.row = e[WWVB_ENTRY_ROW];
+    entry.notice = e[WWVB_ENTRY_NOTICE];
+    entry.place = e[WWVB_ENTRY_PLACE];
+    entry.echo = e[WWVB_ENTRY_ECHO];
+    return entry;
+}
+
+/*
+ * The local date of an entry: wwvb_local_date by its minute, its state and the hour of its row.
+ * Refusal: 16 for an offset that is not -600 to -240, and on the day of a change if the entry's
+ * row has no hour. An entry that the caller made may also give 3, for its minute, or 16, for its
+ * state.
+ * On the day of a change the row is that of the change after today's. So the hour is right if both
+ * changes of a year come at the same hour, as in the United States. Where they do not, keep the
+ * row of the day before and call wwvb_local_date with its hour.
+ */
+WWVB_MUST_USE static inline wwvb_date_reply wwvb_entry_local_date(const wwvb_entry *entry,
+                                                                  int32_t offset)
+{
+    uint32_t hour = wwvb_change_hour(entry->row);
+
+    /* without a change today the hour does not matter */
+    if (hour == 0 && (entry->daylight == WWVB_DAYLIGHT_OFF || entry->daylight == WWVB_DAYLIGHT_ON))
+        hour = 1;
+    return wwvb_local_date(entry->minute, entry->daylight, offset, hour);
+}
 
 #ifdef __cplusplus
 }

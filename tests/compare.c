@@ -31,7 +31,7 @@ static const char *const call_names[CALLS] = {
 /* The numbers that a call can give. */
 static int can_give(enum call c, unsigned n)
 {
-    if (n == 12) /* given no more */
+    if (n == 12) /* no longer returned */
         return 0;
     switch (c) {
     case TO_DATE: return n == 0 || n == 3;
@@ -91,7 +91,7 @@ struct buffer {
     uint8_t *base; /* the pages between two that may not be touched, or the block of malloc */
     uint8_t *at;   /* the buffer */
     size_t length;
-    int at_end; /* whether it ends at the page behind, or begins at the page before */
+    int at_end; /* whether it ends at the page after it, or begins at the page before */
     uint8_t *want;
 };
 
@@ -406,7 +406,7 @@ static size_t damage(uint8_t *bits, size_t length, size_t at)
     case 6: set_state(f, below(32)); break;
     case 7: set_word(f + 53, below(64), 6); break;
     case 8: return below((uint32_t)length + 1);
-    case 9: /* bytes behind */
+    case 9: /* bytes after the bits */
         for (i = 1 + below(62); i; i--)
             bits[length++] = one_in(3) ? (uint8_t)rnd() : 0;
         break;
@@ -414,7 +414,7 @@ static size_t damage(uint8_t *bits, size_t length, size_t at)
         for (i = 1; i <= 31; i++)
             f[ref_bit_of_place(i)] = below(2);
         break;
-    case 11: /* any bits behind the sync word */
+    case 11: /* any bits after the sync word */
         for (i = 13; i < 59; i++)
             f[i] = below(2);
         break;
@@ -511,7 +511,7 @@ static void random_read(void)
     uint32_t n = few(), first = random_minute(&p), i;
     size_t length = recording(&p, first, n, scratch), space = (size_t)n * WWVB_ENTRY_SIZE;
 
-    if (one_in(3)) /* one bit of the time word in each frame, and those at will, while the frames have 60 bits */
+    if (one_in(3)) /* one bit of the time word in each frame, and any bits at 19, 29 and 39, while the frames have 60 bits */
         for (i = 0; i < n && (size_t)i * 60 + 60 <= length; i++) {
             if (one_in(2))
                 scratch[i * 60 + ref_bit_of_place(1 + below(31))] ^= 1;
@@ -758,7 +758,7 @@ static void boundary_frames(void)
     }
 }
 
-/* A frame with the place of its time word inverted, or none for 0, bit 19 by the echo byte, and bits 29 and 39 at will; gives
+/* A frame with the place of its time word inverted, or none for 0, bit 19 by the echo byte, and any bits at 29 and 39; gives
    its entry as sent. */
 static void hear(const struct ref_plan *p, uint32_t minute, unsigned place, unsigned echo, uint8_t *frame, uint8_t *entry)
 {
@@ -877,7 +877,7 @@ static void boundary_recordings(void)
             for (space = 0; space < 3; space++)
                 try_read(bits, length - space, 12000);
         }
-        /* each frame of three: the bits of each number behind, and each length */
+        /* three frames: cut at each bit, the bits before the cut and those from it on */
         length = recording(&p, 6573598, 3, bits);
         for (space = 0; space <= length; space++) {
             try_read(bits, space, 36);
@@ -990,7 +990,7 @@ static int report(void)
             }
         printf("\n");
     }
-    printf("%-22s", "  behind a frame read");
+    printf("%-22s", "  after a frame read");
     for (n = 5; n <= 14; n++)
         if (can_give(READ, n)) {
             printf(" %u:%lu", n, later[n]);

@@ -321,7 +321,7 @@ void ref_entry_as_sent(const struct ref_plan *p, uint32_t minute, unsigned place
 
 /* ---- reading */
 
-/* Questions 6 to 11 and 13 of the frame at the front of the bits; alone: one frame and nothing behind it. */
+/* Questions 6 to 11 and 13 of the frame at the front of the bits; alone: one frame and nothing after it. */
 static unsigned read_one(const uint8_t *f, size_t length, int alone, uint8_t entry[12])
 {
     unsigned i, state = 99, leap_state = 0, found = 0, place, seconds;

@@ -18,8 +18,8 @@ struct ref_date {
     uint32_t year, month, day, hour, minute, weekday;
 };
 
-/* Each gives the number of the question that got a no, or 0; what is pointed to is written only with 0, but for the
-   entries, bits and buffer of a recording's reading, which are those of the frames before the refused one. */
+/* Each gives the number of the first check that fails, or 0. What is pointed to is written only with 0. The entries, bits
+   and buffer of a recording's reading are those of the frames before the refused one. */
 unsigned ref_minute_to_date(uint32_t minute, struct ref_date *date);
 unsigned ref_date_to_minute(const struct ref_date *date, uint32_t *minute);
 unsigned ref_local_date(uint32_t minute, uint32_t state, int32_t offset, uint32_t hour, struct ref_date *date);

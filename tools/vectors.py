@@ -4,11 +4,11 @@ and 02 and the tables of NIST's Enhanced WWVB Broadcast Format (Revision 1.0), i
 calendar. It shares no code with the crates.
 
 A case is a line of the program's input: a letter that says what is tried, numbers that are not printed, a space, a text,
-a `#`, and bytes to be read. The program prints the text, and behind it what the code gives; the model says what that is.
+a `#`, and bytes to be read. The program prints the text, and after it what the code gives; the model says what that is.
 Together the cases get each number that a call can give, and no other.
 
-usage: tools/vectors.py            prints the lines
-       tools/vectors.py --write    writes crates/vectors/stdin and crates/vectors/stdout
+usage: tools/vectors.py                     prints the lines
+       tools/vectors.py --write [FOLDER]    writes crates/vectors/stdin and crates/vectors/stdout, or those files in the folder
 """
 import datetime
 import functools
@@ -439,7 +439,7 @@ def joined(plan, m, other, k):
 
 
 def damaged(bits, question):
-    """A frame of 60 bits in which the question, 7 to 11 or 13, gets a no."""
+    """A frame of 60 bits in which the check, 7 to 11 or 13, fails."""
     bits = list(bits)
     if question == 7:
         bits[29] = 2
@@ -819,8 +819,9 @@ def main():
     listings()
     assert GIVEN == NUMBERS
     text = "\n".join(LINES) + "\n"
-    if sys.argv[1:] == ["--write"]:
-        folder = pathlib.Path(__file__).resolve().parent.parent / "crates" / "vectors"
+    if sys.argv[1:2] == ["--write"]:
+        here = pathlib.Path(__file__).resolve().parent.parent / "crates" / "vectors"
+        folder = pathlib.Path(sys.argv[2]) if sys.argv[2:] else here
         (folder / "stdin").write_bytes(("\n".join(CASES) + "\n").encode())
         (folder / "stdout").write_bytes(text.encode())
     else:

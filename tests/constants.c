@@ -1,0 +1,271 @@
+/*
+ * Each constant of the header is what the library does: with one raised by one this program fails
+ * (tests/constants tries each). Inputs are plain numbers and bits; what is expected is a name.
+ */
+#include "wwvb.h"
+
+#include <stdio.h>
+#include <string.h>
+
+static int failures;
+
+#define CHECK(test) \
+    do { \
+        if (!(test)) { \
+            fprintf(stderr, "constants: line %d: %s\n", __LINE__, #test); \
+            failures++; \
+        } \
+    } while (0)
+
+/* The last minute of June 2012, which is month 149. */
+#define JUNE_ENDS 6573599u
+
+static uint8_t bits[60100], entries[12 * 1001];
+
+/* Writes a frame by the plan of six numbers; returns its bits. */
+static size_t frame_of(uint32_t kind, uint32_t spring, uint32_t autumn, uint32_t leap_month,
+                       int32_t leap_sign, uint32_t notice, uint32_t minute)
+{
+    wwvb_write_reply w = wwvb_write_recording(kind, spring, autumn, leap_month, leap_sign, notice,
+                                              minute, 1, bits, sizeof bits);
+
+    return w.bits;
+}
+
+/* The refusal of a frame of 60 bits in which a word, first bit first, stands from a bit on. */
+static uint32_t with_word(const char *word, size_t at)
+{
+    uint8_t entry[12];
+    size_t n = frame_of(0, 10, 37, 0, 0, 0, 6578970), i;
+
+    for (i = 0; word[i] != 0; i++)
+        bits[at + i] = (uint8_t)(word[i] - '0');
+    return wwvb_read_frame(bits, n, entry, sizeof entry);
+}
+
+static wwvb_entry entry_of(size_t n)
+{
+    wwvb_entry none;
+    uint8_t entry[12];
+
+    memset(&none, 255, sizeof none);
+    return wwvb_read_frame(bits, n, entry, sizeof entry) == 0 ? wwvb_entry_at(entry, 0) : none;
+}
+
+static void limits(void)
+{
+    wwvb_read_reply r;
+    size_t n, i;
+
+    CHECK(wwvb_minute_to_date(WWVB_MINUTES - 1).year == 2099);
+    CHECK(wwvb_minute_to_date(WWVB_MINUTES).year == 0);
+    CHECK(wwvb_write_recording(1, 0, 0, 0, 0, 0, 0, WWVB_MAX_COUNT, bits, sizeof bits).refusal == 0);
+    CHECK(wwvb_write_recording(1, 0, 0, 0, 0, 0, 0, WWVB_MAX_COUNT + 1, bits, sizeof bits).bits == 0);
+
+    /* the longest recording: 1,000 frames with a minute of 61 seconds */
+    CHECK(wwvb_write_recording(1, 0, 0, 149, 1, 0, JUNE_ENDS, 1000, bits, WWVB_MAX_RECORDING).bits ==
+          WWVB_MAX_RECORDING);
+    CHECK(wwvb_write_recording(1, 0, 0, 149, 1, 0, JUNE_ENDS, 1000, bits, WWVB_MAX_RECORDING - 1)
+              .refusal == WWVB_NO_BIT_SPACE);
+
+    CHECK(frame_of(1, 0, 0, 149, 1, 0, JUNE_ENDS) == WWVB_MAX_FRAME);
+    n = frame_of(1, 0, 0, 149, -1, 0, JUNE_ENDS);
+    CHECK(n == WWVB_MIN_FRAME);
+    CHECK(wwvb_read_frame(bits, WWVB_MIN_FRAME - 1, entries, sizeof entries) == WWVB_TOO_SHORT);
+    CHECK(wwvb_read_frame(bits, WWVB_MIN_FRAME, entries, sizeof entries) == WWVB_OK);
+
+    /* an entry takes so many bytes, and no fewer */
+    memset(entries, 99, sizeof entries);
+    CHECK(wwvb_read_frame(bits, n, entries, WWVB_ENTRY_SIZE - 1) == WWVB_NO_ENTRY_SPACE);
+    CHECK(wwvb_read_frame(bits, n, entries, WWVB_ENTRY_SIZE) == WWVB_OK);
+    for (i = 0; i < 20; i++)
+        CHECK((entries[i] == 99) == (i >= WWVB_ENTRY_SIZE));
+    n = wwvb_write_recording(1, 0, 0, 0, 0, 0, 5, 3, bits, sizeof bits).bits;
+    r = wwvb_read_recording(bits, n, entries, 3 * WWVB_ENTRY_SIZE);
+    CHECK(r.entries == 3 && r.used == 180 && r.refusal == WWVB_OK);
+    CHECK(wwvb_entry_at(entries, 2).minute == 7);
+}
+
+static void refusals(void)
+{
+    uint8_t entry[12];
+    size_t n;
+
+    CHECK(wwvb_minute_to_date(0).refusal == WWVB_OK);
+    CHECK(wwvb_write_recording(0, 0, 0, 0, 0, 0, 0, 1, bits, sizeof bits).refusal == WWVB_ILLEGAL_PLAN);
+    CHECK(wwvb_write_recording(1, 0, 0, 0, 0, 0, 0, 0, bits, sizeof bits).refusal == WWVB_BAD_COUNT);
+    CHECK(wwvb_write_recording(1, 0, 0, 0, 0, 0, 52595999, 2, bits, sizeof bits).refusal ==
+          WWVB_MINUTE_TOO_LARGE);
+    CHECK(wwvb_minute_to_date(52596000).refusal == WWVB_MINUTE_TOO_LARGE);
+    CHECK(wwvb_write_recording(1, 0, 0, 0, 0, 0, 0, 1, bits, 59).refusal == WWVB_NO_BIT_SPACE);
+
+    n = frame_of(0, 10, 37, 0, 0, 0, 6578970);
+    CHECK(wwvb_read_frame(bits, n, entry, 11) == WWVB_NO_ENTRY_SPACE);
+    CHECK(wwvb_read_frame(bits, 58, entry, 12) == WWVB_TOO_SHORT);
+    CHECK(wwvb_read_frame(bits, 59, entry, 12) == WWVB_BAD_LENGTH);
+    CHECK(with_word("2", 29) == WWVB_NOT_BITS);
+    CHECK(with_word("1", 0) == WWVB_BAD_SYNC);
+    CHECK(with_word("000010", 47) == WWVB_BAD_STATE); /* 00010; the third 0 is the notice */
+    CHECK(with_word("111111", 53) == WWVB_BAD_NEXT_CHANGE);
+    CHECK(with_word("1", 59) == WWVB_BAD_LENGTH);
+    /* bits 13 to 46 all 1 are the time word of 67,108,863: each parity bit sums 15 time bits */
+    CHECK(with_word("1111111111111111111111111111111111", 13) == WWVB_BAD_MINUTE);
+
+    n = frame_of(1, 0, 0, 0, 0, 0, 5);
+    CHECK(wwvb_write_recording(1, 0, 0, 0, 0, 0, 7, 1, bits + n, 60).bits == 60);
+    CHECK(wwvb_read_recording(bits, n + 60, entries, sizeof entries).refusal == WWVB_OUT_OF_ORDER);
+    CHECK(wwvb_date_to_minute(2011, 2, 29, 0, 0).refusal == WWVB_NOT_A_DATE);
+    CHECK(wwvb_local_date(0, 0, -601, 2).refusal == WWVB_BAD_SETTING);
+    CHECK(wwvb_local_date(0, 4, -600, 2).refusal == WWVB_BAD_SETTING);
+    CHECK(wwvb_local_date(0, 0, -600, 4).refusal == WWVB_BAD_SETTING);
+}
+
+/* Every byte of an entry with a value that its neighbours do not have. */
+static void fields(void)
+{
+    uint8_t entry[12];
+    size_t n = frame_of(0, 10, 37, 149, 1, 1, JUNE_ENDS); /* 0x00644e1f */
+    wwvb_entry e;
+
+    bits[46] ^= 1; /* place 31 */
+    CHECK(wwvb_read_frame(bits, n, entry, sizeof entry) == WWVB_OK);
+    CHECK(entry[WWVB_ENTRY_MINUTE] == 0 && entry[WWVB_ENTRY_MINUTE + 1] == 0x64 &&
+          entry[WWVB_ENTRY_MINUTE + 2] == 0x4e && entry[WWVB_ENTRY_MINUTE + 3] == 0x1f);
+    CHECK(entry[WWVB_ENTRY_LENGTH] == 61);
+    CHECK(entry[WWVB_ENTRY_DAYLIGHT] == 3);
+    CHECK(entry[WWVB_ENTRY_LEAP] == 2);
+    CHECK(entry[WWVB_ENTRY_ROW] == 37);
+    CHECK(entry[WWVB_ENTRY_NOTICE] == 1);
+    CHECK(entry[WWVB_ENTRY_PLACE] == 31);
+    CHECK(entry[WWVB_ENTRY_ECHO] == 1);
+    CHECK(entry[11] == 0);
+
+    e = wwvb_entry_at(entry, 0);
+    CHECK(e.minute == JUNE_ENDS && e.length == 61 && e.daylight == 3 && e.leap == 2 && e.row == 37);
+    CHECK(e.notice == 1 && e.place == 31 && e.echo == 1);
+}
+
+static void numbers(void)
+{
+    wwvb_plan us = wwvb_us_plan();
+    size_t n;
+    uint32_t row;
+
+    /* kinds, by the state and the row that they send on a summer day and on a winter day */
+    CHECK(entry_of(frame_of(WWVB_KIND_ROWS, 10, 37, 0, 0, 0, 6578970)).row == 37);
+    CHECK(entry_of(frame_of(WWVB_KIND_NONE, 0, 0, 0, 0, 0, 6578970)).row == WWVB_ROW_NO_DAYLIGHT);
+    CHECK(entry_of(frame_of(WWVB_KIND_NONE, 0, 0, 0, 0, 0, 6578970)).daylight == WWVB_DAYLIGHT_OFF);
+    CHECK(entry_of(frame_of(WWVB_KIND_WHOLE_YEAR, 0, 0, 0, 0, 0, 0)).row == WWVB_ROW_WHOLE_YEAR);
+    CHECK(entry_of(frame_of(WWVB_KIND_WHOLE_YEAR, 0, 0, 0, 0, 0, 0)).daylight == WWVB_DAYLIGHT_ON);
+    n = frame_of(1, 0, 0, 0, 0, 0, 0);
+    memcpy(bits + 53, "\1\0\0\0\1\1", 6); /* 100011, other time */
+    CHECK(entry_of(n).row == WWVB_ROW_OTHER_TIME);
+
+    /* the rows of the United States: 2012-03-11 and 2012-11-04; 2 o'clock */
+    CHECK(entry_of(frame_of(0, WWVB_US_SPRING_ROW, 37, 0, 0, 0, 6412319)).daylight == WWVB_DAYLIGHT_OFF);
+    CHECK(entry_of(frame_of(0, WWVB_US_SPRING_ROW, 37, 0, 0, 0, 6412320)).daylight ==
+          WWVB_DAYLIGHT_BEGINS);
+    CHECK(entry_of(frame_of(0, WWVB_US_SPRING_ROW, 37, 0, 0, 0, 6413760)).daylight == WWVB_DAYLIGHT_ON);
+    CHECK(entry_of(frame_of(0, 10, WWVB_US_AUTUMN_ROW, 0, 0, 0, 6755039)).daylight == WWVB_DAYLIGHT_ON);
+    CHECK(entry_of(frame_of(0, 10, WWVB_US_AUTUMN_ROW, 0, 0, 0, 6755040)).daylight ==
+          WWVB_DAYLIGHT_ENDS);
+    CHECK(entry_of(frame_of(0, 10, WWVB_US_AUTUMN_ROW, 0, 0, 0, 6756480)).daylight == WWVB_DAYLIGHT_OFF);
+    CHECK(us.kind == 0 && us.spring == 10 && us.autumn == 37);
+    CHECK(us.leap_month == 0 && us.leap_sign == 0 && us.notice == 0);
+    for (row = 0; row < 100; row++) {
+        static const uint32_t hours[3] = {1, 2, 3};
+        uint32_t want = row < 1 || row > 48 ? 0 : hours[(row - 1) / 8 % 3];
+
+        CHECK(wwvb_change_hour(row) == want);
+    }
+    CHECK(wwvb_change_hour(0xffffffffu) == 0);
+
+    /* leap states */
+    CHECK(entry_of(frame_of(1, 0, 0, 149, 1, 0, JUNE_ENDS)).leap == WWVB_LEAP_POSITIVE);
+    CHECK(entry_of(frame_of(1, 0, 0, 149, -1, 0, JUNE_ENDS)).leap == WWVB_LEAP_NEGATIVE);
+    CHECK(entry_of(frame_of(1, 0, 0, 149, 1, 0, JUNE_ENDS + 1)).leap == WWVB_LEAP_NONE);
+}
+
+/* The structs' calls beside those with numbers. */
+static void structs(void)
+{
+    wwvb_plan plan = wwvb_plan_by_rows(3, 44);
+    uint8_t other[200];
+    wwvb_write_reply a, b;
+    wwvb_entry e;
+    wwvb_date_reply d;
+
+    plan.leap_month = 149;
+    plan.leap_sign = -1;
+    plan.notice = 1;
+    a = wwvb_write(&plan, JUNE_ENDS - 1, 3, other, sizeof other);
+    b = wwvb_write_recording(0, 3, 44, 149, -1, 1, JUNE_ENDS - 1, 3, bits, sizeof bits);
+    CHECK(a.refusal == WWVB_OK && a.bits == 179 && b.bits == a.bits);
+    CHECK(memcmp(bits, other, a.bits) == 0);
+    CHECK(wwvb_write(&plan, JUNE_ENDS - 1, 3, other, 178).refusal == WWVB_NO_BIT_SPACE);
+    plan.kind = WWVB_KIND_NONE;
+    CHECK(wwvb_write(&plan, 0, 1, other, sizeof other).refusal == WWVB_ILLEGAL_PLAN);
+
+    /* 2012-03-11 07:00 UTC is 03:00 in New York: the clocks have just changed at 2 */
+    e = entry_of(frame_of(0, 10, 37, 0, 0, 0, 6412740));
+    d = wwvb_entry_local_date(&e, -300);
+    CHECK(d.refusal == WWVB_OK && d.month == 3 && d.day == 11 && d.hour == 3 && d.minute == 0);
+    CHECK(e.row == WWVB_US_AUTUMN_ROW); /* the row is that of the change after today's */
+    e.minute--;
+    d = wwvb_entry_local_date(&e, -300);
+    CHECK(d.refusal == WWVB_OK && d.hour == 1 && d.minute == 59);
+    CHECK(wwvb_entry_local_date(&e, -239).refusal == WWVB_BAD_SETTING);
+    e.row = WWVB_ROW_OTHER_TIME; /* a change today at an hour that no row gives */
+    CHECK(wwvb_entry_local_date(&e, -300).refusal == WWVB_BAD_SETTING);
+    CHECK(entry_of(frame_of(0, 10, 37, 0, 0, 0, 6755040)).row == WWVB_US_SPRING_ROW);
+    e = entry_of(frame_of(1, 0, 0, 0, 0, 0, 6578970));
+    d = wwvb_entry_local_date(&e, -300);
+    CHECK(d.refusal == WWVB_OK && d.day == 4 && d.hour == 12 && d.minute == 30);
+    e = entry_of(frame_of(2, 0, 0, 0, 0, 0, 6578970));
+    d = wwvb_entry_local_date(&e, -300);
+    CHECK(d.refusal == WWVB_OK && d.day == 4 && d.hour == 13 && d.minute == 30);
+}
+
+/* Each refusal has its name and a sentence of its own; other numbers have neither. */
+static void names(void)
+{
+    static const char *const name[] = {
+        "WWVB_OK", "WWVB_ILLEGAL_PLAN", "WWVB_BAD_COUNT", "WWVB_MINUTE_TOO_LARGE", "WWVB_NO_BIT_SPACE",
+        "WWVB_NO_ENTRY_SPACE", "WWVB_TOO_SHORT", "WWVB_NOT_BITS", "WWVB_BAD_SYNC", "WWVB_BAD_STATE",
+        "WWVB_BAD_NEXT_CHANGE", "WWVB_BAD_MINUTE", "unknown refusal", "WWVB_BAD_LENGTH",
+        "WWVB_OUT_OF_ORDER", "WWVB_NOT_A_DATE", "WWVB_BAD_SETTING", "unknown refusal",
+    };
+    uint32_t i, j, known = sizeof name / sizeof *name - 1;
+
+    for (i = 0; i <= known; i++) {
+        const char *text = wwvb_refusal_text(i);
+
+        CHECK(strcmp(wwvb_refusal_name(i), name[i]) == 0);
+        CHECK(strlen(text) > 10 && text[strlen(text) - 1] == '.');
+        for (j = 0; j < i; j++)
+            CHECK(strcmp(text, wwvb_refusal_text(j)) != 0 || (j == 12 && i == known));
+    }
+    CHECK(strcmp(wwvb_refusal_name(0xffffffffu), "unknown refusal") == 0);
+    CHECK(strcmp(wwvb_refusal_text(0xffffffffu), wwvb_refusal_text(12)) == 0);
+}
+
+#define TEXT(x) #x
+#define TEXT_OF(x) TEXT(x)
+
+static void version(void)
+{
+    CHECK(strcmp(WWVB_VERSION, TEXT_OF(WWVB_VERSION_MAJOR) "." TEXT_OF(WWVB_VERSION_MINOR) "."
+                               TEXT_OF(WWVB_VERSION_PATCH)) == 0);
+}
+
+int main(void)
+{
+    limits();
+    refusals();
+    fields();
+    numbers();
+    structs();
+    names();
+    version();
+    return failures != 0;
+}
