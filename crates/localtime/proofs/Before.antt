@@ -9,11 +9,14 @@ use Rattle.calendar.specs.Calendar.{maxMinute, realDate}
 use Rattle.calendar.specs.Answer.{Numbers, dateQuestions, dateOfMinute, minuteQuestions, minuteOfDate}
 use Rattle.calendar.proofs.RoundTrip.{in-range}
 use Rattle.localtime.specs.Local.{legalSetting, localQuestions, localOf}
-use Rattle.localtime.specs.Before.{dateOfMinuteBefore, minuteOfDateBefore, localOfBefore, SameDatesAsBefore}
+use Rattle.localtime.specs.Before.{PickIsCond, dateOfMinuteBefore, minuteOfDateBefore, localOfBefore, SameDatesAsBefore}
+
+pub pick-is-cond : PickIsCond
+pick-is-cond A true a b = refl
+pick-is-cond A false a b = refl
 
 picked : (t : Bool) (a b : Numbers) → pick t a b ≡ cond t a b
-picked true a b = refl
-picked false a b = refl
+picked = pick-is-cond Numbers
 
 twice : (s t : Bool) (a b c : Numbers) → pick s (pick t a b) c ≡ cond s (cond t a b) c
 twice true t a b c = picked t a b

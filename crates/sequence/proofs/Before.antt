@@ -1,7 +1,7 @@
 -- The calls give what they gave before the questions stood in lists.
 -- Assumes nothing.
 use Prim.Native.Nat.{ℕ, zero, suc, _+_, _-_, _/_}
-use mathlib.Core.Bool.{Bool, true, false}
+use mathlib.Core.Bool.{Bool, true, false, cond}
 use mathlib.Core.List.{List, [], _∷_}
 use mathlib.Core.Path.{_≡_, refl, sym, ap, _∙_}
 use native.Mathlib.Decide.{decLe}
@@ -11,8 +11,11 @@ use lib.ListN.{length, drop}
 use borrow.Author.Tests.{le-leb, lt-leb}
 use Rattle.questions.specs.Questions.{asked, refusalOf}
 use Rattle.bits.specs.Bits.{pick}
-use Rattle.calendar.specs.Calendar.{minuteCount, maxMinute}
+use Rattle.calendar.specs.Calendar.{minuteCount, maxMinute, lastOfMonth}
 use Rattle.calendar.proofs.RoundTrip.{in-range}
+use Rattle.codewords.specs.declared.LeapState.{LeapState}
+use Rattle.codewords.specs.declared.LeapState.the-variants.{None, Negative, Positive}
+use Rattle.plan.specs.Plan.{usualFrame, leapAt, leapLength, lengthAt}
 use Rattle.plan.specs.declared.Plan.{Plan}
 use Rattle.format.specs.Entry.{Entry, entrySize}
 use Rattle.format.specs.Frame.{sync, frame}
@@ -22,7 +25,7 @@ use Rattle.format.specs.Next.{Answer, refused, entry, readNext, oneAnswer, oneO
 use Rattle.format.specs.declared.Due.{Due}
 use Rattle.sequence.specs.Writing.{seconds, writeQuestions, writeRefusal}
 use Rattle.sequence.specs.Reading.{Found, stop, add, onward, readFrames, outcome, readFrom}
-use Rattle.sequence.specs.Before.{syncBefore, frameBefore, secondsForBefore, ask, askFields, readFrame, readOneBefore, FoundBefore, stopBefore, addBefore, onwardBefore, readFramesBefore, outcomeBefore, readIntoBefore, writeRefusalBefore, SameAsBefore}
+use Rattle.sequence.specs.Before.{leapLengthBefore, lengthAtBefore, syncBefore, frameBefore, secondsForBefore, ask, askFields, readFrame, readOneBefore, FoundBefore, stopBefore, addBefore, onwardBefore, readFramesBefore, outcomeBefore, readIntoBefore, writeRefusalBefore, SameAsBefore}
 
 -- question 14 of a frame whose other questions are asked
 inOrder : Due → Answer → Answer
@@ -110,10 +113,21 @@ length-same (suc l) false = refl
 length-same (suc zero) true = refl
 length-same (suc (suc l)) true = refl
 
+minute-same : (p : Plan) (t : ℕ) → lengthAt p t ≡ lengthAtBefore p t
+unfolding lengthAt lengthAtBefore leapLengthBefore
+minute-same p t = go (lastOfMonth t) (leapAt p t)
+  where
+    go : (b : Bool) (l : LeapState) → pick b (leapLength l) usualFrame ≡ cond b (leapLengthBefore l) 60
+    go false l = refl
+    go true None = refl
+    go true Negative = refl
+    go true Positive = refl
+
 pub same-as-before : SameAsBefore
 unfolding sync syncBefore frame frameBefore readFrom outcome readIntoBefore outcomeBefore
 same-as-before =
     record {
+      a-minute = minute-same;
       sync-word = refl;
       a-frame = λ s. refl;
       a-length = length-same;

@@ -2,15 +2,17 @@
 -- the same. Those that are not here keep their text.
 -- Assumes nothing.
 use Prim.Native.Nat.{ℕ, zero, suc, _+_, _-_, _/_}
-use mathlib.Core.Bool.{Bool, true, false, _&&_}
+use mathlib.Core.Bool.{Bool, true, false, cond, _&&_}
 use mathlib.Core.List.{List, [], _∷_, _++_}
 use mathlib.Core.Path.{_≡_}
 use lib.Dec.{leb, ltb, eqb}
 use lib.ListN.{length, take, drop, replicate}
 use Rattle.bits.specs.Bits.{pick, bits, number, isBit, isZero, all}
-use Rattle.calendar.specs.Calendar.{minuteCount}
+use Rattle.calendar.specs.Calendar.{minuteCount, lastOfMonth}
 use Rattle.codewords.specs.CodeWords.{stateOf}
-use Rattle.plan.specs.Plan.{legalPlan}
+use Rattle.codewords.specs.declared.LeapState.{LeapState}
+use Rattle.codewords.specs.declared.LeapState.the-variants.{None, Negative, Positive}
+use Rattle.plan.specs.Plan.{legalPlan, leapAt, lengthAt}
 use Rattle.plan.specs.declared.Plan.{Plan}
 use Rattle.format.specs.Frame.{Sent, sync, bodyOf, frame, stateIn}
 use Rattle.format.specs.Entry.{Entry, entrySize}
@@ -21,6 +23,16 @@ use Rattle.format.specs.declared.Due.{Due}
 use Rattle.format.specs.declared.Due.the-variants.{Minute}
 use Rattle.sequence.specs.Writing.{seconds, writeRefusal}
 use Rattle.sequence.specs.Reading.{bytesOf, Outcome, readInto}
+
+-- ---- a minute's length
+
+unfoldable pub leapLengthBefore : LeapState → ℕ
+leapLengthBefore None = 60
+leapLengthBefore Negative = 59
+leapLengthBefore Positive = 61
+
+unfoldable pub lengthAtBefore : Plan → ℕ → ℕ
+lengthAtBefore p t = cond (lastOfMonth t) (leapLengthBefore (leapAt p t)) 60
 
 -- ---- one frame, sent and read
 
@@ -109,6 +121,7 @@ writeRefusalBefore p m n space =
 
 -- ---- every call gives what it gave, for every input; this file goes with the next landing
 pub record SameAsBefore : Type 0 where
+  pub a-minute : (p : Plan) (t : ℕ) → lengthAt p t ≡ lengthAtBefore p t
   pub sync-word : sync ≡ syncBefore
   pub a-frame : (s : Sent) → frame s ≡ frameBefore s
   pub a-length : (l : ℕ) (b : Bool) → secondsFor l b ≡ secondsForBefore l b
