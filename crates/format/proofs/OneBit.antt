@@ -280,4 +280,4 @@ one-bit s l k h =
 pub any-bit-inverted : AnyBitInverted
 unfolding readOne
 any-bit-inverted p m k buffer legal h inside space =
-    rw (yes-5 start buffer (invertBit k (frame (sentBy p m))) space, one-bit (sentBy p m) (legal-sent p legal m h) k inside)
+    rw (yes-5 start true (length buffer) (invertBit k (frame (sentBy p m))) space, one-bit (sentBy p m) (legal-sent p legal m h) k inside)

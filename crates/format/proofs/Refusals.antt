@@ -10,14 +10,14 @@ use lib.ListN.{length, drop}
 use Rattle.questions.specs.Questions.{Question, asked, refusalOf, numbersOf, oneOf}
 use Rattle.questions.proofs.Laws.{asked-map, Verdict, verdict, all-yes, first-no, accepted-when, refused-when, answers-in, zero-when, number-when, number-in, listed}
 use Rattle.format.specs.Entry.{Entry, entrySize, entryBytes}
-use Rattle.format.specs.Questions.{start, after, follows, entryNext, question5, question6, question7, question8, question9, question10, question11, question13, timeQuestions, nextQuestions, oneQuestions}
-use Rattle.format.specs.Next.{Answer, refused, entry, readNext, oneAnswer, OneOutcome, oneOutcome, readOne}
+use Rattle.format.specs.Questions.{start, after, follows, entryNext, question5, question6, question7, question8, question9, question10, question11, question13, timeQuestions, nextQuestions, entryQuestions}
+use Rattle.format.specs.Next.{Answer, refused, entry, readNext, readEntry, OneOutcome, oneOutcome, readOne}
 use Rattle.format.specs.Refusals.{nextNumbers, FrameOrder, FrameAccepted, FrameRefused, FrameAnswers, OrderAsked, OneAccepted, OneRefused, OneAnswers, firstNumbers, FirstAnswers, OneBuffer}
 use Rattle.format.specs.declared.Due.{Due}
 
 pub frame-order : FrameOrder
-unfolding nextQuestions oneQuestions timeQuestions numbersOf
-frame-order due alone buffer f = (refl, refl)
+unfolding nextQuestions entryQuestions timeQuestions numbersOf
+frame-order due alone free f = (refl, refl)
 
 refused-injective : (n m : ℕ) → refused n ≡ refused m → n ≡ m
 refused-injective n m h = cc
@@ -37,7 +37,7 @@ frame-refused due alone f n =
 
 pub frame-answers : FrameAnswers
 unfolding readNext
-frame-answers due alone f = rw (frame-order due alone [] f .0) at (answers-in refused (entry (entryNext due f)) (nextQuestions due alone f))
+frame-answers due alone f = rw (frame-order due alone 0 f .0) at (answers-in refused (entry (entryNext due f)) (nextQuestions due alone f))
 
 pub order-asked : OrderAsked
 unfolding follows after
@@ -46,22 +46,22 @@ order-asked = (λ m. refl, λ due e m. refl)
 -- ---- reading one frame into an entry buffer
 
 module _ (due : Due) (buffer f : List ℕ) where
-  refusal-is : readOne due buffer f .refusal ≡ refusalOf (oneQuestions due buffer f)
-  unfolding readOne oneAnswer oneOutcome refusalOf
-  refusal-is = asked-map (λ (a : Answer). oneOutcome buffer a .refusal) refused (entry (entryNext due f)) (oneQuestions due buffer f)
+  refusal-is : readOne due buffer f .refusal ≡ refusalOf (entryQuestions due true (length buffer) f)
+  unfolding readOne readEntry oneOutcome refusalOf
+  refusal-is = asked-map (λ (a : Answer). oneOutcome buffer a .refusal) refused (entry (entryNext due f)) (entryQuestions due true (length buffer) f)
 
-  one-above : oneOf (numbersOf (oneQuestions due buffer f)) 0 ≡ false
+  one-above : oneOf (numbersOf (entryQuestions due true (length buffer) f)) 0 ≡ false
   unfolding oneOf
-  one-above = rw (frame-order due true buffer f .1)
+  one-above = rw (frame-order due true (length buffer) f .1)
 
 pub one-accepted : OneAccepted
-one-accepted due buffer f = rw (refusal-is due buffer f) (zero-when (oneQuestions due buffer f) (one-above due buffer f))
+one-accepted due buffer f = rw (refusal-is due buffer f) (zero-when (entryQuestions due true (length buffer) f) (one-above due buffer f))
 
 pub one-refused : OneRefused
-one-refused due buffer f n l = rw (refusal-is due buffer f) (number-when (oneQuestions due buffer f) n l)
+one-refused due buffer f n l = rw (refusal-is due buffer f) (number-when (entryQuestions due true (length buffer) f) n l)
 
 pub one-answers : OneAnswers
-one-answers due buffer f = rw (refusal-is due buffer f) (rw (frame-order due true buffer f .1) at (number-in (oneQuestions due buffer f)))
+one-answers due buffer f = rw (refusal-is due buffer f) (rw (frame-order due true (length buffer) f .1) at (number-in (entryQuestions due true (length buffer) f)))
 
 -- with no frame before it, question 14 is answered yes
 module _ (buffer f : List ℕ) where
@@ -74,8 +74,8 @@ module _ (buffer f : List ℕ) where
       ∷ (9, question9 f) ∷ (10, question10 e) ∷ (11, question11 e) ∷ (13, question13 true f e)
       ∷ []
 
-  first-is : refusalOf (oneQuestions start buffer f) ≡ refusalOf firstQuestions
-  unfolding refusalOf asked oneQuestions nextQuestions timeQuestions firstQuestions follows
+  first-is : refusalOf (entryQuestions start true (length buffer) f) ≡ refusalOf firstQuestions
+  unfolding refusalOf asked entryQuestions nextQuestions timeQuestions firstQuestions follows
   first-is = refl
 
   first-listed : numbersOf firstQuestions ≡ 5 ∷ firstNumbers
@@ -86,17 +86,17 @@ pub first-answers : FirstAnswers
 first-answers buffer f = rw (refusal-is start buffer f, first-is buffer f) (rw (first-listed buffer f) at (number-in (firstQuestions buffer f)))
 
 pub one-buffer : OneBuffer
-unfolding readOne oneAnswer oneOutcome oneOf
-one-buffer due buffer f = go (verdict refused (entry (entryNext due f)) (oneQuestions due buffer f))
+unfolding readOne readEntry oneOutcome oneOf
+one-buffer due buffer f = go (verdict refused (entry (entryNext due f)) (entryQuestions due true (length buffer) f))
   where
-    go : Verdict refused (entry (entryNext due f)) (oneQuestions due buffer f)
+    go : Verdict refused (entry (entryNext due f)) (entryQuestions due true (length buffer) f)
         → (readOne due buffer f .refusal ≡ 0 → readOne due buffer f .buffer ≡ entryBytes (entryNext due f) ++ drop entrySize buffer)
         × (0 < readOne due buffer f .refusal → readOne due buffer f .buffer ≡ buffer)
     go (all-yes p e) = rw e (λ h. refl, λ h. absurd (omega arith))
     go (first-no n p e) =
         rw e (
           λ h.
-              let z : _≡_ {A = ℕ} 0 1 = (let t = sym (rw h at (listed (oneQuestions due buffer f) n p)) ∙ one-above due buffer f in cc) in
+              let z : _≡_ {A = ℕ} 0 1 = (let t = sym (rw h at (listed (entryQuestions due true (length buffer) f) n p)) ∙ one-above due buffer f in cc) in
               absurd (omega arith),
           λ h. refl,
         )

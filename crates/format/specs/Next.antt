@@ -1,12 +1,12 @@
 -- Reading the next frame in the reader's state: one frame alone, a frame of a recording, a frame after others.
 -- Assumes nothing.
 use Prim.Native.Nat.{ℕ}
-use mathlib.Core.Bool.{Bool}
+use mathlib.Core.Bool.{Bool, true}
 use mathlib.Core.List.{List, _++_}
-use lib.ListN.{drop}
+use lib.ListN.{length, drop}
 use Rattle.questions.specs.Questions.{asked}
 use Rattle.format.specs.Entry.{Entry, entrySize, entryBytes}
-use Rattle.format.specs.Questions.{after, entryNext, nextQuestions, oneQuestions}
+use Rattle.format.specs.Questions.{after, entryNext, nextQuestions, entryQuestions}
 use Rattle.format.specs.declared.Due.{Due}
 
 -- the answer to one frame ("Recordings and entries"): one entry, or the refusal alone
@@ -18,16 +18,16 @@ pub data Answer : Type 0 where
 unfoldable pub readNext : Due → Bool → List ℕ → Answer
 readNext due alone f = asked refused (nextQuestions due alone f) (entry (entryNext due f))
 
+-- the same, read into so many free entry bytes: question 5 comes first
+unfoldable pub readEntry : Due → Bool → ℕ → List ℕ → Answer
+readEntry due alone free f = asked refused (entryQuestions due alone free f) (entry (entryNext due f))
+
 -- the state after an answer: a refused frame keeps it
 unfoldable pub dueAfterAnswer : Due → Answer → Due
 dueAfterAnswer due (refused n) = due
 dueAfterAnswer due (entry e) = after due e
 
 -- ---- one frame alone, read into an entry buffer
-
--- its answer: question 5, then those of the next frame
-unfoldable pub oneAnswer : Due → List ℕ → List ℕ → Answer
-oneAnswer due buffer f = asked refused (oneQuestions due buffer f) (entry (entryNext due f))
 
 -- what reading one frame gives ("Recordings and entries"): the refusal or 0, and the entry buffer after it
 pub record OneOutcome : Type 0 where
@@ -40,8 +40,8 @@ oneOutcome buffer (refused n) = record { refusal = n; buffer = buffer }
 oneOutcome buffer (entry e) = record { refusal = 0; buffer = entryBytes e ++ drop entrySize buffer }
 
 unfoldable pub readOne : Due → List ℕ → List ℕ → OneOutcome
-readOne due buffer f = oneOutcome buffer (oneAnswer due buffer f)
+readOne due buffer f = oneOutcome buffer (readEntry due true (length buffer) f)
 
 -- the state after it
 unfoldable pub oneDue : Due → List ℕ → List ℕ → Due
-oneDue due buffer f = dueAfterAnswer due (oneAnswer due buffer f)
+oneDue due buffer f = dueAfterAnswer due (readEntry due true (length buffer) f)

@@ -88,6 +88,6 @@ timeQuestions due alone f e =
 unfoldable pub nextQuestions : Due → Bool → List ℕ → List Question
 nextQuestions due alone f = (6, question6 f) ∷ (7, question7 f) ∷ (8, question8 f) ∷ timeQuestions due alone f (entryNext due f)
 
--- of one frame alone, read into an entry buffer
-unfoldable pub oneQuestions : Due → List ℕ → List ℕ → List Question
-oneQuestions due buffer f = (5, question5 (length buffer)) ∷ nextQuestions due true f
+-- of the next frame, read into so many free entry bytes
+unfoldable pub entryQuestions : Due → Bool → ℕ → List ℕ → List Question
+entryQuestions due alone free f = (5, question5 free) ∷ nextQuestions due alone f

@@ -9,7 +9,7 @@ use lib.Dec.{eqb}
 use lib.ListN.{length, drop, getD}
 use Rattle.questions.specs.Questions.{AllYes, FirstNo, numbersOf, oneOf}
 use Rattle.format.specs.Entry.{Entry, entrySize, entryBytes}
-use Rattle.format.specs.Questions.{start, after, follows, nextQuestions, oneQuestions, entryNext}
+use Rattle.format.specs.Questions.{start, after, follows, nextQuestions, entryQuestions, entryNext}
 use Rattle.format.specs.Next.{refused, entry, readNext, readOne}
 use Rattle.format.specs.declared.Due.{Due}
 
@@ -20,8 +20,8 @@ nextNumbers = 6 ∷ 7 ∷ 8 ∷ 9 ∷ 10 ∷ 11 ∷ 13 ∷ 14 ∷ []
 -- the questions have these numbers, in this order; 5 comes before them
 abbrev pub FrameOrder : Type 0
 FrameOrder =
-    (due : Due) (alone : Bool) (buffer f : List ℕ)
-    → (numbersOf (nextQuestions due alone f) ≡ nextNumbers) × (numbersOf (oneQuestions due buffer f) ≡ 5 ∷ nextNumbers)
+    (due : Due) (alone : Bool) (free : ℕ) (f : List ℕ)
+    → (numbersOf (nextQuestions due alone f) ≡ nextNumbers) × (numbersOf (entryQuestions due alone free f) ≡ 5 ∷ nextNumbers)
 
 -- a frame is accepted, with its entry, exactly when every question is answered yes
 abbrev pub FrameAccepted : Type 0
@@ -53,11 +53,11 @@ OrderAsked =
 
 -- reading one frame gives 0 exactly when every question is answered yes
 abbrev pub OneAccepted : Type 0
-OneAccepted = (due : Due) (buffer f : List ℕ) → readOne due buffer f .refusal ≡ 0 ↔ AllYes (oneQuestions due buffer f)
+OneAccepted = (due : Due) (buffer f : List ℕ) → readOne due buffer f .refusal ≡ 0 ↔ AllYes (entryQuestions due true (length buffer) f)
 
 -- it gives n exactly when the questions before n are answered yes and question n is not
 abbrev pub OneRefused : Type 0
-OneRefused = (due : Due) (buffer f : List ℕ) (n : ℕ) → 0 < n → readOne due buffer f .refusal ≡ n ↔ FirstNo (oneQuestions due buffer f) n
+OneRefused = (due : Due) (buffer f : List ℕ) (n : ℕ) → 0 < n → readOne due buffer f .refusal ≡ n ↔ FirstNo (entryQuestions due true (length buffer) f) n
 
 -- it gives 0, 5 or one of their numbers
 abbrev pub OneAnswers : Type 0

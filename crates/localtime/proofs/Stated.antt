@@ -1,7 +1,5 @@
 -- Every statement of specs with its proof: where a proof is missing, this module is not proved.
 -- Assumes nothing.
-use Rattle.localtime.specs.Before.{PickIsCond, SameDatesAsBefore}
-use Rattle.localtime.proofs.Before.{pick-is-cond, same-dates-as-before}
 use Rattle.localtime.specs.Theorems.{LocalOrder, LocalAccepted, LocalRefused, LocalAnswers, LocalDates, AddedMinutes, SpringForward, AutumnBack, OtherwiseByOne, NoChanges}
 use Rattle.localtime.proofs.Answers.{local-order, local-accepted, local-refused, local-answers, local-dates, added-minutes}
 use Rattle.localtime.proofs.Clock.{spring-forward, autumn-back, otherwise-by-one, no-changes}
@@ -35,9 +33,3 @@ otherwise-by-one′ = otherwise-by-one
 
 no-changes′ : NoChanges
 no-changes′ = no-changes
-
-pick-is-cond′ : PickIsCond
-pick-is-cond′ = pick-is-cond
-
-same-dates-as-before′ : SameDatesAsBefore
-same-dates-as-before′ = same-dates-as-before

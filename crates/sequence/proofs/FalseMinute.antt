@@ -25,7 +25,7 @@ use Rattle.sequence.specs.Reading.{Found, stop, add, readFrames, seconds
 use Rattle.sequence.specs.Refusals.{bitsAfter, stateAfter, frameQuestions, Read, none, more, kept}
 use Rattle.sequence.specs.FalseMinute.{entriesRead, entryAtRank, bitsAtRank, NearAtRank, FarAtRank, MinutesRead, FalseMinute, ReadWhole, FalseMinuteOfWhole}
 use Rattle.sequence.proofs.Steps.{ended, no-space, frame-refused, frame-read}
-use Rattle.sequence.proofs.ReadRefusals.{recording-only, recording-accepted}
+use Rattle.sequence.proofs.ReadRefusals.{after-5, recording-only, recording-accepted}
 
 -- ---- each entry is that of its frame
 
@@ -124,7 +124,7 @@ chain-more due f (d ∷ es) e c h =
 chain-read : (space : ℕ) (f : List ℕ) {es : List Entry} → Read space f es → Chain start f es
 chain-read space f none = tt
 chain-read space f (more es r l a) =
-    chain-more start f es _ (chain-read space f r) (frame-accepted (stateAfter es) false (bitsAfter f es) .1 (unfold frameQuestions in a .1))
+    chain-more start f es _ (chain-read space f r) (frame-accepted (stateAfter es) false (bitsAfter f es) .1 (after-5 space f es a))
 
 -- the bytes of the entry at a rank
 bytes-at : (es : List Entry) (k : ℕ) (rest : List ℕ) → k < length es → take entrySize (drop (entrySize * k) (bytesOf es ++ rest)) ≡ entryBytes (entryAtRank k es)
