@@ -5,9 +5,9 @@ use mathlib.Core.Bool.{false}
 use mathlib.Core.List.{List, [], _∷_}
 use mathlib.Core.Path.{_≡_, refl, ap, _∙_}
 use native.Mathlib.Omega.{arith}
-use lib.ListN.{length, drop}
-use Rattle.format.specs.Entry.{Entry, entrySize}
-use Rattle.format.specs.Questions.{after, entryQuestions}
+use lib.ListN.{length}
+use Rattle.format.specs.Entry.{entrySize}
+use Rattle.format.specs.Questions.{entryQuestions}
 use Rattle.format.specs.Next.{Answer, refused, entry, readNext, readEntry, readOne, oneDue}
 use Rattle.format.specs.declared.Due.{Due}
 use Rattle.sequence.specs.Reading.{Found, add, onward, readFrames, outcome, readFrom, dueFrom}
@@ -19,7 +19,7 @@ onward-same : (due : Due) (f : List ℕ) (a : Answer) (next last : Due → List 
     → onward due f a next ≡ onward due f a last
 unfolding onward
 onward-same due f (refused r) next last h = refl
-onward-same due f (entry e) next last h = ap (add e) (h (after due e) (drop (e .seconds) f))
+onward-same due f (entry e) next last h = ap (add e) (h _ _)
 
 frames-same : (n : ℕ) (due : Due) (f : List ℕ) → readFrames n due f ≡ readFramesBefore n due f
 unfolding readFramesBefore
