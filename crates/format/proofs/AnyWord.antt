@@ -2,14 +2,14 @@
 -- Assumes nothing.
 use Prim.Native.Nat.{ℕ, zero, suc, _+_, _-_, _*_, _/_, _%_, _≤_, _<_}
 use mathlib.Core.Bool.{Bool, true, false}
-use mathlib.Core.List.{List, [], _∷_, _++_, append-nil}
+use mathlib.Core.List.{List, [], _++_, append-nil}
 use mathlib.Core.Path.{_≡_, refl, _∙_}
 use native.Mathlib.Nat.{mod-eq-of-lt}
 use native.Mathlib.Omega.{arith}
 use lib.Dec.{eqb}
 use lib.ListN.{length, take, drop, getD, replicate, length-replicate}
 use borrow.Author.Tests.{le-leb, eq-eqb}
-use Rattle.bits.specs.Bits.{pick, bit, bits, number, isBit, isZero, all}
+use Rattle.bits.specs.Bits.{pick, bit, bits, number, isBit, all}
 use Rattle.bits.proofs.Bits.{number-bits, bit-lt}
 use Rattle.bits.proofs.Parts.{bits-take}
 use Rattle.bits.proofs.Tests.{and-true}
@@ -19,7 +19,7 @@ use Rattle.timeword.proofs.Correct.{received-codeWord}
 use Rattle.codewords.specs.CodeWords.{illegal, stateWords, stateOf, nextWords}
 use Rattle.codewords.proofs.RowList.{row-back}
 use Rattle.codewords.proofs.Tables.{row-small, next-word-lt}
-use Rattle.format.specs.Frame.{minFrame, usualFrame, syncWord, Sent, sync, body, bodyOf, frame, wordIn, stateIn, nextIn}
+use Rattle.format.specs.Frame.{minFrame, usualFrame, syncWord, Sent, sync, body, wordIn, stateIn, nextIn}
 use Rattle.format.specs.Entry.{Entry, sentEntry}
 use Rattle.format.specs.Received.{withEcho}
 use Rattle.format.specs.Reading.{secondsFor, entryOf}

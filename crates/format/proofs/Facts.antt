@@ -1,10 +1,10 @@
 -- What some of a frame's questions say without the list.
 -- Assumes nothing.
-use Prim.Native.Nat.{ℕ, zero, suc, _≤_, _<_}
-use mathlib.Core.Bool.{Bool, true, false, _&&_, and-false}
+use Prim.Native.Nat.{ℕ, zero, suc, _<_}
+use mathlib.Core.Bool.{Bool, false, and-false}
 use mathlib.Core.List.{List, [], _∷_}
 use mathlib.Core.Logic.{inl, inr}
-use mathlib.Core.Path.{_≡_, refl, sym, _∙_}
+use mathlib.Core.Path.{_≡_}
 use native.Mathlib.Omega.{arith}
 use lib.Dec.{leb}
 use lib.ListN.{length, take, getD}
@@ -14,9 +14,7 @@ use Rattle.questions.specs.Questions.{FirstNo}
 use Rattle.bits.specs.Bits.{isBit, all}
 use Rattle.calendar.specs.Calendar.{maxMinute}
 use Rattle.format.specs.Frame.{minFrame}
-use Rattle.format.specs.Entry.{Entry}
 use Rattle.format.specs.Questions.{entryNext, timeQuestions, nextQuestions}
-use Rattle.format.specs.Next.{refused, entry, readNext}
 use Rattle.format.specs.Refusals.{FrameFacts}
 use Rattle.format.specs.declared.Due.{Due}
 use Rattle.format.proofs.Questions.{no-6, no-7}

@@ -13,7 +13,7 @@ use Rattle.bits.specs.Bits.{Binary, isBit, all}
 use Rattle.bits.proofs.Parts.{binary-append, binary-take, binary-drop}
 use Rattle.bits.proofs.Tests.{binary}
 use Rattle.calendar.specs.Calendar.{minuteCount}
-use Rattle.timeword.specs.TimeWord.{Received, codeWord, reading}
+use Rattle.timeword.specs.TimeWord.{Received}
 use Rattle.timeword.proofs.Distance.{near-read-as, two-inverted-never-place-0}
 use Rattle.format.specs.Frame.{minFrame, wordIn}
 use Rattle.format.specs.Inverting.{from, timeNumbers, timeBits}

@@ -21,7 +21,7 @@ use Rattle.codewords.specs.CodeWords.{illegal, unassigned, stateWords, stateOf,
 use Rattle.codewords.proofs.Apart.{state-inverted, row-inverted}
 use Rattle.codewords.proofs.Tables.{row-small}
 use Rattle.format.specs.Frame.{minFrame, syncWord, Sent, sentBy, sync, body, bodyOf, frame, stateIn, nextIn}
-use Rattle.format.specs.Entry.{entrySize, sentEntry}
+use Rattle.format.specs.Entry.{sentEntry}
 use Rattle.format.specs.Inverting.{timeNumbers, framePlaces, from, flip, invertAt, inverted, withUnread}
 use Rattle.format.specs.Received.{Reception, received, withEcho, receivedEntry}
 use Rattle.format.specs.Reading.{entryOf}

@@ -3,16 +3,15 @@
 use Prim.Native.Nat.{ℕ, _<_}
 use mathlib.Core.Bool.{true, false}
 use mathlib.Core.List.{List, _∷_, [], _++_}
-use mathlib.Core.Logic.{inl, inr}
-use mathlib.Core.Path.{_≡_, refl, sym, ap, _∙_}
+use mathlib.Core.Path.{_≡_, refl, sym, _∙_}
 use native.Mathlib.Omega.{arith}
 use lib.ListN.{length, drop}
 use Rattle.questions.specs.Questions.{Question, asked, refusalOf, numbersOf, oneOf}
 use Rattle.questions.proofs.Laws.{asked-map, Verdict, verdict, all-yes, first-no, accepted-when, refused-when, answers-in, zero-when, number-when, number-in, listed}
 use Rattle.format.specs.Entry.{Entry, entrySize, entryBytes}
 use Rattle.format.specs.Questions.{start, after, follows, entryNext, question5, question6, question7, question8, question9, question10, question11, question13, timeQuestions, nextQuestions, entryQuestions}
-use Rattle.format.specs.Next.{Answer, refused, entry, readNext, readEntry, OneOutcome, oneOutcome, readOne}
-use Rattle.format.specs.Refusals.{nextNumbers, FrameOrder, FrameAccepted, FrameRefused, FrameAnswers, OrderAsked, OneAccepted, OneRefused, OneAnswers, firstNumbers, FirstAnswers, OneBuffer}
+use Rattle.format.specs.Next.{Answer, refused, entry, readNext, readEntry, oneOutcome, readOne}
+use Rattle.format.specs.Refusals.{FrameOrder, FrameAccepted, FrameRefused, FrameAnswers, OrderAsked, OneAccepted, OneRefused, OneAnswers, firstNumbers, FirstAnswers, OneBuffer}
 use Rattle.format.specs.declared.Due.{Due}
 
 pub frame-order : FrameOrder

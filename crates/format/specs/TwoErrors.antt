@@ -9,7 +9,7 @@ use Rattle.plan.specs.Plan.{legalPlan}
 use Rattle.plan.specs.declared.Plan.{Plan}
 use Rattle.format.specs.Frame.{Sent, sentBy, frame}
 use Rattle.format.specs.Inverting.{inverted}
-use Rattle.format.specs.Entry.{Entry, sentEntry}
+use Rattle.format.specs.Entry.{sentEntry}
 use Rattle.format.specs.Received.{withEcho}
 use Rattle.format.specs.Questions.{start}
 use Rattle.format.specs.Next.{entry, readNext}

@@ -1,29 +1,29 @@
 -- What a false minute takes, of a recording as read: each entry is that of its rank's bits, and its minute is one more than the one before.
 -- Assumes nothing.
-use Prim.Native.Nat.{ℕ, zero, suc, _+_, _*_, _/_, _≤_, _<_}
+use Prim.Native.Nat.{ℕ, zero, suc, _+_, _*_, _/_, _<_}
 use mathlib.Core.Bool.{true, false}
-use mathlib.Core.List.{List, [], _∷_, _++_, map}
-use mathlib.Core.Logic.{_⊎_, inl, inr}
-use mathlib.Core.Path.{_≡_, refl, sym, ap, subst, _∙_}
+use mathlib.Core.List.{List, [], _∷_, _++_}
+use mathlib.Core.Logic.{inl, inr}
+use mathlib.Core.Path.{_≡_, refl, sym, subst, _∙_}
 use native.Mathlib.Decide.{decLe}
 use native.Mathlib.Omega.{arith}
-use lib.ListN.{length, getD, take, drop}
+use lib.ListN.{length, take, drop}
 use lib.Seq.{drop-drop}
 use borrow.Author.Tests.{eqb-true}
 use Rattle.questions.proofs.Laws.{answer, yes-at}
 use Rattle.bits.specs.Bits.{concat}
 use Rattle.calendar.specs.Calendar.{minuteCount}
 use Rattle.format.specs.Entry.{Entry, entrySize, entryBytes}
-use Rattle.format.specs.Questions.{start, after, follows, entryNext, timeQuestions, nextQuestions}
+use Rattle.format.specs.Questions.{start, after, follows, timeQuestions, nextQuestions}
 use Rattle.format.specs.Next.{Answer, refused, entry, readNext}
 use Rattle.format.specs.FalseMinute.{distanceFrom}
 use Rattle.format.specs.declared.Due.{Due}
 use Rattle.format.proofs.Accepted.{entry-only}
 use Rattle.format.proofs.Refusals.{frame-accepted, order-asked}
 use Rattle.format.proofs.FalseMinute.{frame-read-near}
-use Rattle.sequence.specs.Reading.{Found, stop, add, readFrames, secondsOf, bytesOf, dueAfter, Outcome, outcome, readFrom, readInto}
-use Rattle.sequence.specs.Refusals.{bitsAfter, stateAfter, frameQuestions, Read, none, more, kept}
-use Rattle.sequence.specs.FalseMinute.{entriesRead, entryAtRank, bitsAtRank, NearAtRank, FarAtRank, MinutesRead, FalseMinute, ReadWhole, FalseMinuteOfWhole}
+use Rattle.sequence.specs.Reading.{Found, stop, add, readFrames, secondsOf, bytesOf, dueAfter, readInto}
+use Rattle.sequence.specs.Refusals.{bitsAfter, stateAfter, Read, none, more, kept}
+use Rattle.sequence.specs.FalseMinute.{entriesRead, entryAtRank, bitsAtRank, NearAtRank, MinutesRead, FalseMinute, FalseMinuteOfWhole}
 use Rattle.sequence.proofs.Steps.{ended, no-space, frame-refused, frame-read}
 use Rattle.sequence.proofs.ReadRefusals.{after-5, recording-only, recording-accepted}
 

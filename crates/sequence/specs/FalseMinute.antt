@@ -11,7 +11,7 @@ use Rattle.format.specs.Entry.{Entry, entrySize, entryBytes}
 use Rattle.format.specs.Reading.{entryOf}
 use Rattle.format.specs.FalseMinute.{distanceFrom}
 use Rattle.format.specs.declared.Due.{Due}
-use Rattle.sequence.specs.Reading.{readFrames, readFrom, readInto}
+use Rattle.sequence.specs.Reading.{readFrames, readInto}
 use Rattle.sequence.specs.Refusals.{bitsAfter, Read}
 
 -- the entries that reading f into a buffer finds, from a state on
