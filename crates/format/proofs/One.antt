@@ -12,9 +12,10 @@ use Rattle.questions.specs.Questions.{asked}
 use Rattle.format.specs.Entry.{Entry, entrySize, entryBytes}
 use Rattle.format.specs.Questions.{after, entryQuestions}
 use Rattle.format.specs.Next.{refused, entry, readNext, readEntry, dueAfterAnswer, OneOutcome, oneOutcome, readOne, oneDue}
+use Rattle.format.specs.Refusals.{SpaceFirst}
 use Rattle.format.specs.declared.Due.{Due}
 
--- question 5 of a frame, alone or of a recording
+-- question 5, of a frame alone or of a recording
 module _ (due : Due) (alone : Bool) (free : ℕ) (f : List ℕ) where
   pub no-5 : free < entrySize → readEntry due alone free f ≡ refused 5
   unfolding readEntry entryQuestions asked
@@ -23,6 +24,9 @@ module _ (due : Due) (alone : Bool) (free : ℕ) (f : List ℕ) where
   pub yes-5 : entrySize ≤ free → readEntry due alone free f ≡ readNext due alone f
   unfolding readEntry entryQuestions asked readNext
   yes-5 h = rw (le-leb entrySize free h)
+
+pub space-first : SpaceFirst
+space-first due alone free f = (no-5 due alone free f, yes-5 due alone free f)
 
 module _ (due : Due) (buffer f : List ℕ) where
   -- the number, the buffer after the call, and the state

@@ -5,11 +5,11 @@ use mathlib.Core.Bool.{true, false}
 use mathlib.Core.List.{List, _∷_, [], _++_}
 use mathlib.Core.Path.{_≡_, refl, sym, _∙_}
 use native.Mathlib.Omega.{arith}
-use lib.ListN.{length, drop}
+use lib.ListN.{length, take, drop}
 use Rattle.questions.specs.Questions.{Question, asked, refusalOf, numbersOf, oneOf}
-use Rattle.questions.proofs.Laws.{asked-map, Verdict, verdict, all-yes, first-no, accepted-when, refused-when, answers-in, zero-when, number-when, number-in, listed}
+use Rattle.questions.proofs.Laws.{asked-map, Verdict, verdict, all-yes, first-no, accepted-when, refused-when, answers-in, zero-when, number-when, number-in, listed, yes-after}
 use Rattle.format.specs.Entry.{Entry, entrySize, entryBytes}
-use Rattle.format.specs.Questions.{start, after, follows, entryNext, question5, question6, question7, question8, question9, question10, question11, question13, timeQuestions, nextQuestions, entryQuestions}
+use Rattle.format.specs.Questions.{start, after, follows, entryNext, timeQuestions, nextQuestions, entryQuestions}
 use Rattle.format.specs.Next.{Answer, refused, entry, readNext, readEntry, oneOutcome, readOne}
 use Rattle.format.specs.Refusals.{FrameOrder, FrameAccepted, FrameRefused, FrameAnswers, OrderAsked, OneAccepted, OneRefused, OneAnswers, firstNumbers, FirstAnswers, OneBuffer}
 use Rattle.format.specs.declared.Due.{Due}
@@ -62,23 +62,17 @@ one-refused due buffer f n l = rw (refusal-is due buffer f) (number-when (entryQ
 pub one-answers : OneAnswers
 one-answers due buffer f = rw (refusal-is due buffer f) (rw (frame-order due true (length buffer) f .1) at (number-in (entryQuestions due true (length buffer) f)))
 
--- with no frame before it, question 14 is answered yes
+-- with no frame before it the last question, 14, is answered yes
 module _ (buffer f : List ℕ) where
-  abbrev e : Entry
-  e = entryNext start f
-
-  firstQuestions : List Question
-  firstQuestions =
-      (5, question5 (length buffer)) ∷ (6, question6 f) ∷ (7, question7 f) ∷ (8, question8 f)
-      ∷ (9, question9 f) ∷ (10, question10 e) ∷ (11, question11 e) ∷ (13, question13 true f e)
-      ∷ []
+  abbrev firstQuestions : List Question
+  firstQuestions = take (length firstNumbers) (entryQuestions start true (length buffer) f)
 
   first-is : refusalOf (entryQuestions start true (length buffer) f) ≡ refusalOf firstQuestions
-  unfolding refusalOf asked entryQuestions nextQuestions timeQuestions firstQuestions follows
-  first-is = refl
+  unfolding entryQuestions nextQuestions timeQuestions follows
+  first-is = yes-after (length firstNumbers) (entryQuestions start true (length buffer) f) (refl, tt)
 
-  first-listed : numbersOf firstQuestions ≡ 5 ∷ firstNumbers
-  unfolding firstQuestions numbersOf
+  first-listed : numbersOf firstQuestions ≡ firstNumbers
+  unfolding entryQuestions nextQuestions timeQuestions numbersOf
   first-listed = refl
 
 pub first-answers : FirstAnswers

@@ -3,7 +3,7 @@
 use Rattle.format.specs.Entry.{EntryLaidOut}
 use Rattle.format.specs.Inverting.{InvertsOneBit}
 use Rattle.format.specs.Received.{EchoByteAlone}
-use Rattle.format.specs.Refusals.{FrameOrder, FrameAccepted, FrameRefused, FrameAnswers, FrameFacts, OrderAsked, OneAccepted, OneRefused, OneAnswers, FirstAnswers, OneBuffer}
+use Rattle.format.specs.Refusals.{FrameOrder, SpaceFirst, FrameAccepted, FrameRefused, FrameAnswers, FrameFacts, OrderAsked, OneAccepted, OneRefused, OneAnswers, FirstAnswers, OneBuffer}
 use Rattle.format.specs.OneBit.{AnyBitInverted}
 use Rattle.format.specs.FalseMinute.{FrameReadNear}
 use Rattle.format.specs.TwoErrors.{TwoErrorsMistaken}
@@ -12,6 +12,7 @@ use Rattle.format.proofs.Inverting.{inverts-one-bit}
 use Rattle.format.proofs.Echo.{echo-byte-alone}
 use Rattle.format.proofs.Facts.{frame-facts}
 use Rattle.format.proofs.Refusals.{frame-order, frame-accepted, frame-refused, frame-answers, order-asked, one-accepted, one-refused, one-answers, first-answers, one-buffer}
+use Rattle.format.proofs.One.{space-first}
 use Rattle.format.proofs.OneBit.{any-bit-inverted}
 use Rattle.format.proofs.FalseMinute.{frame-read-near}
 use Rattle.format.proofs.TwoErrors.{two-errors-mistaken}
@@ -27,6 +28,9 @@ echo-byte-alone′ = echo-byte-alone
 
 frame-order′ : FrameOrder
 frame-order′ = frame-order
+
+space-first′ : SpaceFirst
+space-first′ = space-first
 
 frame-accepted′ : FrameAccepted
 frame-accepted′ = frame-accepted

@@ -1,4 +1,5 @@
--- Reading the next frame in the reader's state: one frame alone, a frame of a recording, a frame after others.
+-- Reading the next frame in the reader's state: one frame alone, a frame of a recording, a frame after others
+-- (document 01, "Recordings and entries" and "Questions in order").
 -- Assumes nothing.
 use Prim.Native.Nat.{ℕ}
 use mathlib.Core.Bool.{Bool, true}
@@ -14,11 +15,11 @@ pub data Answer : Type 0 where
   refused : ℕ → Answer
   entry : Entry → Answer
 
--- the next frame, alone (true) or of a recording (false): its entry, or the refusal of the first question answered no
+-- what the bits of the next frame give, alone (true) or of a recording (false): its entry, or the refusal of the first question answered no
 unfoldable pub readNext : Due → Bool → List ℕ → Answer
 readNext due alone f = asked refused (nextQuestions due alone f) (entry (entryNext due f))
 
--- the same, read into so many free entry bytes: question 5 comes first
+-- the step of reading: the next frame, read into so many free entry bytes, so that question 5 comes first
 unfoldable pub readEntry : Due → Bool → ℕ → List ℕ → Answer
 readEntry due alone free f = asked refused (entryQuestions due alone free f) (entry (entryNext due f))
 
@@ -39,6 +40,7 @@ unfoldable pub oneOutcome : List ℕ → Answer → OneOutcome
 oneOutcome buffer (refused n) = record { refusal = n; buffer = buffer }
 oneOutcome buffer (entry e) = record { refusal = 0; buffer = entryBytes e ++ drop entrySize buffer }
 
+-- reading one frame alone in a state ("Recordings and entries")
 unfoldable pub readOne : Due → List ℕ → List ℕ → OneOutcome
 readOne due buffer f = oneOutcome buffer (readEntry due true (length buffer) f)
 

@@ -10,18 +10,29 @@ use lib.ListN.{length, drop, getD}
 use Rattle.questions.specs.Questions.{AllYes, FirstNo, numbersOf, oneOf}
 use Rattle.format.specs.Entry.{Entry, entrySize, entryBytes}
 use Rattle.format.specs.Questions.{start, after, follows, nextQuestions, entryQuestions, entryNext}
-use Rattle.format.specs.Next.{refused, entry, readNext, readOne}
+use Rattle.format.specs.Next.{refused, entry, readNext, readEntry, readOne}
 use Rattle.format.specs.declared.Due.{Due}
 
 -- the numbers of the next frame's questions; there is no 12 (document 02, 2)
 abbrev pub nextNumbers : List ℕ
 nextNumbers = 6 ∷ 7 ∷ 8 ∷ 9 ∷ 10 ∷ 11 ∷ 13 ∷ 14 ∷ []
 
--- the questions have these numbers, in this order; 5 comes before them
+-- read into an entry, 5 comes before them
+abbrev pub entryNumbers : List ℕ
+entryNumbers = 5 ∷ nextNumbers
+
+-- the questions have these numbers, in this order
 abbrev pub FrameOrder : Type 0
 FrameOrder =
     (due : Due) (alone : Bool) (free : ℕ) (f : List ℕ)
-    → (numbersOf (nextQuestions due alone f) ≡ nextNumbers) × (numbersOf (entryQuestions due alone free f) ≡ 5 ∷ nextNumbers)
+    → (numbersOf (nextQuestions due alone f) ≡ nextNumbers) × (numbersOf (entryQuestions due alone free f) ≡ entryNumbers)
+
+-- 5 first: with fewer than 12 bytes free the answer is 5, else it is what the bits give
+abbrev pub SpaceFirst : Type 0
+SpaceFirst =
+    (due : Due) (alone : Bool) (free : ℕ) (f : List ℕ)
+    → (free < entrySize → readEntry due alone free f ≡ refused 5)
+    × (entrySize ≤ free → readEntry due alone free f ≡ readNext due alone f)
 
 -- a frame is accepted, with its entry, exactly when every question is answered yes
 abbrev pub FrameAccepted : Type 0
@@ -37,7 +48,7 @@ FrameAnswers =
     (due : Due) (alone : Bool) (f : List ℕ)
     → (readNext due alone f ≡ entry (entryNext due f)) ⊎ ((n : ℕ) × (oneOf nextNumbers n ≡ true) × (readNext due alone f ≡ refused n))
 
--- some of them without the list: fewer than 59 bytes give 6; a byte above 1 among the first 59 gives 7; the minute of an accepted frame lies in
+-- some of them without the list, in the numbers of document 01: fewer than 59 bytes give 6; a byte above 1 among the first 59 gives 7; the minute of an accepted frame lies in
 -- the range, and that of one refused with 11 does not
 pub record FrameFacts : Type 0 where
   pub too-short : (due : Due) (alone : Bool) (f : List ℕ) → length f < 59 → readNext due alone f ≡ refused 6
@@ -59,16 +70,17 @@ OneAccepted = (due : Due) (buffer f : List ℕ) → readOne due buffer f .refusa
 abbrev pub OneRefused : Type 0
 OneRefused = (due : Due) (buffer f : List ℕ) (n : ℕ) → 0 < n → readOne due buffer f .refusal ≡ n ↔ FirstNo (entryQuestions due true (length buffer) f) n
 
--- it gives 0, 5 or one of their numbers
+-- it gives 0 or one of their numbers
 abbrev pub OneAnswers : Type 0
-OneAnswers = (due : Due) (buffer f : List ℕ) → (readOne due buffer f .refusal ≡ 0) ⊎ (oneOf (5 ∷ nextNumbers) (readOne due buffer f .refusal) ≡ true)
+OneAnswers = (due : Due) (buffer f : List ℕ) → (readOne due buffer f .refusal ≡ 0) ⊎ (oneOf entryNumbers (readOne due buffer f .refusal) ≡ true)
 
--- with no frame before it, it gives 0, 5 or one of the numbers but 14
+-- the numbers but 14
 abbrev pub firstNumbers : List ℕ
-firstNumbers = 6 ∷ 7 ∷ 8 ∷ 9 ∷ 10 ∷ 11 ∷ 13 ∷ []
+firstNumbers = 5 ∷ 6 ∷ 7 ∷ 8 ∷ 9 ∷ 10 ∷ 11 ∷ 13 ∷ []
 
+-- with no frame before it, it gives 0 or one of these
 abbrev pub FirstAnswers : Type 0
-FirstAnswers = (buffer f : List ℕ) → (readOne start buffer f .refusal ≡ 0) ⊎ (oneOf (5 ∷ firstNumbers) (readOne start buffer f .refusal) ≡ true)
+FirstAnswers = (buffer f : List ℕ) → (readOne start buffer f .refusal ≡ 0) ⊎ (oneOf firstNumbers (readOne start buffer f .refusal) ≡ true)
 
 -- the entry buffer after it: the entry's 12 bytes and then the rest as before; refused, as it was
 abbrev pub OneBuffer : Type 0

@@ -7,7 +7,7 @@ use mathlib.Core.Logic.{_⊎_, inl, inr, _↔_}
 use mathlib.Core.Path.{_≡_, refl, sym, ap, _∙_}
 use native.Mathlib.Omega.{arith}
 use lib.Dec.{eqb}
-use lib.ListN.{length, getD}
+use lib.ListN.{length, take, drop, getD}
 use borrow.Author.Tests.{eq-eqb, eqb-true}
 use Rattle.bits.specs.Bits.{pick}
 use Rattle.questions.specs.Questions.{Question, asked, refusalOf, AllYes, FirstNo, numbersOf, oneOf, OneOfListed}
@@ -120,6 +120,13 @@ module _ {A : Type 0} (refusal : ℕ → A) (a : A) where
         go (first-no n q e) = inr (n, listed qs n q, e)
 
 -- ---- refusals as numbers
+
+-- questions at the end of a list that are answered yes decide nothing
+pub yes-after : (k : ℕ) (qs : List Question) → AllYes (drop k qs) → refusalOf qs ≡ refusalOf (take k qs)
+unfolding refusalOf asked
+yes-after zero qs p = asked-yes (λ n. n) 0 qs p
+yes-after (suc k) [] p = refl
+yes-after (suc k) (q ∷ qs) p = ap (λ (r : ℕ). pick (q .1) r (q .0)) (yes-after k qs p)
 
 module _ (qs : List Question) where
   -- where no question has the number 0, 0 says that all are answered yes
