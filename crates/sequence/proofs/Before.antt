@@ -1,4 +1,4 @@
--- The calls give what they gave before question 5 stood in the list that reading asks.
+-- The calls give what they gave before question 5 of a recording stood in the list that reading asks.
 -- Assumes nothing.
 use Prim.Native.Nat.{ℕ, zero, suc, _/_}
 use mathlib.Core.Bool.{false}

@@ -1,4 +1,5 @@
--- The definitions of reading before question 5 stood in the list that reading asks, and the theorem that the new ones give the same.
+-- The definitions of reading before question 5 of a recording stood in the list that reading asks, and the theorem that the new ones
+-- give the same (document 01, "Questions in order").
 -- Assumes nothing.
 use Prim.Native.Nat.{ℕ, zero, suc, _/_}
 use mathlib.Core.Bool.{true, false}
