@@ -48,7 +48,7 @@ impl End {
 }
 
 // The bytes of an entry.
-const ENTRY_SIZE: usize = 12;
+pub const ENTRY_SIZE: usize = 12;
 
 // Writes an entry to the front of out.
 fn put_entry(state: State, fields: Fields, out: &mut [u8])

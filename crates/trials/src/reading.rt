@@ -1,6 +1,6 @@
 // Frames and recordings read.
 use crate::show;
-use crate::show::ENTRY_SIZE;
+use entries::ENTRY_SIZE;
 use format::Due;
 
 // Reads the bits into the front of the entry bytes: as one frame the refusal or 0,
