@@ -1,4 +1,5 @@
--- What the text of a case holds, and the check sum of a text: what `trials` and `vectors` try the code with.
+-- What the text of a case holds, and the check sum of a text: what `trials` and `vectors` try the code with. No section of the papers: the form
+-- of stored cases is the test programs' own.
 -- Assumes nothing.
 use Prim.Native.Nat.{ℕ, _+_, _-_, _*_, _%_}
 use mathlib.Core.Bool.{Bool, _&&_}

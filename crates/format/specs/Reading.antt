@@ -12,7 +12,7 @@ use Rattle.codewords.specs.CodeWords.{stateOf, rowOf}
 use Rattle.format.specs.Frame.{minFrame, usualFrame, maxFrame, wordIn, stateIn, nextIn}
 use Rattle.format.specs.Entry.{Entry}
 
--- the length called for (question 13), by the leap state and whether the minute is the last of its month:
+-- the length called for ("Questions in order", 13), by the leap state and whether the minute is the last of its month:
 -- 61 (positive, 2) or 59 (negative, 1) if it is, else 60
 unfoldable pub secondsFor : ℕ → Bool → ℕ
 secondsFor zero b = usualFrame

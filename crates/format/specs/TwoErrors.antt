@@ -1,4 +1,5 @@
--- Two inverted bits that are read as another minute (document 01, "Known blunders": who corrects one error does not see every two).
+-- Two inverted bits that are read as another minute (document 01, "Known blunders": who corrects one error does not see every two;
+-- document 02, 2).
 -- Assumes nothing.
 use Prim.Native.Nat.{ℕ}
 use mathlib.Core.Bool.{Bool, true}
