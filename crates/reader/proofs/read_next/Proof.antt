@@ -23,7 +23,7 @@ module _ (g : tie.After-gather-arg) where
   f = z .args .frame .now
 
   front-length : length (take minFrame f) ≡ minFrame
-  front-length = length-take-le minFrame f (g .before .if1 .left)
+  front-length = length-take-le minFrame f (omega arith)
 
 -- the first 59 bits as a number
 module _ (k : tie.After-known-told) where
@@ -37,7 +37,7 @@ module _ (k : tie.After-known-told) where
   front = gathered-word (take minFrame (f g′)) w (sym (k .before .before .before .gather .ensures) ∙ k .before .gathered .given .1)
 
 returns : tie.Need-returns
-returns c = let a = c .before .before .args in sym (no-6 (a .due) (a .alone) (a .frame .now) (c .if1 .taken))
+returns c = let a = c .before .before .args in sym (no-6 (a .due) (a .alone) (a .frame .now) (omega arith))
 
 slice-aggregate-gather : tie.Need-slice-aggregate-gather
 slice-aggregate-gather c = sym (front-length c)
@@ -54,10 +54,10 @@ enum-told c = search needs
 returns-2 : tie.Need-returns-2
 returns-2 c =
     let g = c .before .before .before in
-    sym (no-7 (z g .args .due) (z g .args .alone) (f g) (g .before .if1 .left) (gathered-none (take minFrame (f g)) (sym (c .before .before .gather .ensures) ∙ c .enum-told .given .1)))
+    sym (no-7 (z g .args .due) (z g .args .alone) (f g) (omega arith) (gathered-none (take minFrame (f g)) (sym (c .before .before .gather .ensures) ∙ c .enum-told .given .1)))
 
 read-frame-requires : tie.Need-read-frame-requires
-read-frame-requires c κs = (g′ c .before .if1 .left, front c .0, front c .1)
+read-frame-requires c κs = (omega arith, front c .0, front c .1)
 
 returns-3 : tie.Need-returns-3
 returns-3 c = c .read-frame .ensures
