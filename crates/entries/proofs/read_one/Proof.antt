@@ -30,7 +30,7 @@ module _ (k : tie.After-known-told2) where
 returns : tie.Need-returns
 returns c =
     let a = c .before .before .before .args in
-    one-no-space (a .due) (a .entry .now) (a .bits .now) (c .if1 .taken)
+    one-no-space (a .due) (a .entry .now) (a .bits .now) (omega arith)
 
 read-next-requires : tie.Need-read-next-requires
 read-next-requires c κs = search needs
