@@ -2,11 +2,11 @@
 -- Assumes nothing.
 use Prim.Native.Nat.{ℕ, _<_}
 use mathlib.Core.Bool.{true, false}
-use mathlib.Core.List.{List, _∷_, [], _++_}
+use mathlib.Core.List.{List, _++_}
 use mathlib.Core.Path.{_≡_, refl, sym, _∙_}
 use native.Mathlib.Omega.{arith}
 use lib.ListN.{length, take, drop}
-use Rattle.questions.specs.Questions.{Question, asked, refusalOf, numbersOf, oneOf}
+use Rattle.questions.specs.Questions.{Question, refusalOf, numbersOf, oneOf}
 use Rattle.questions.proofs.Laws.{asked-map, Verdict, verdict, all-yes, first-no, accepted-when, refused-when, answers-in, zero-when, number-when, number-in, listed, yes-after}
 use Rattle.format.specs.Entry.{Entry, entrySize, entryBytes}
 use Rattle.format.specs.Questions.{start, after, follows, entryNext, timeQuestions, nextQuestions, entryQuestions}
