@@ -1,4 +1,4 @@
--- A reading in parts: up to any frame's end, and on from the state there (document 02, 10, whose marks are still to come).
+-- A reading in parts: up to any frame's end, and on from the state there. No section of the papers: document 02, 10, builds on it.
 -- Assumes nothing.
 use Prim.Native.Nat.{ℕ, _-_, _≤_}
 use mathlib.Core.List.{List}
