@@ -12,6 +12,7 @@ use Rattle.bits.specs.Bits.{pick}
 use Rattle.bits.specs.Numbers.{Numbers, found, refused}
 use Rattle.questions.specs.Questions.{asked}
 use Rattle.codewords.specs.CodeWords.{daylightNumber, leapNumber, stateNumber, illegal, stateOf, stateAnswer, stateQuestions, stateReading, unassigned, rowOf, rowAnswer, rowQuestions, rowReading}
+use Rattle.codewords.specs.Theorems.{StateAnswered, RowAnswered}
 use Rattle.codewords.specs.declared.State.{State}
 use Rattle.codewords.specs.declared.StateAnswer.the-variants.{Legal, Illegal}
 use Rattle.codewords.specs.declared.RowAnswer.the-variants.{Assigned, Unassigned}
@@ -82,3 +83,13 @@ module _ (d v : ℕ) where
   pub unassigned-is : rowAnswer Unassigned ≡ rowReading d v → rowOf d v ≡ unassigned
   unfolding rowReading rowQuestions asked
   unassigned-is e = omega (arith, rowOf-le d v, lacked (rowOf d v) unassigned 10 (omega arith) (rowOf d v ∷ []) e)
+
+-- ---- without their lists
+
+pub state-answered : StateAnswered
+unfolding stateReading stateQuestions asked
+state-answered v = refl
+
+pub row-answered : RowAnswered
+unfolding rowReading rowQuestions asked
+row-answered daylight v = refl

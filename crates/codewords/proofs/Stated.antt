@@ -1,6 +1,7 @@
 -- Every statement of specs with its proof: where a proof is missing, this module is not proved.
 -- Assumes nothing.
-use Rattle.codewords.specs.Theorems.{StatesReadBack, OtherStatesIllegal, TwentyIllegal, RowsReadBack, OtherRowsUnassigned, ThirtySevenUnassigned, ReservedUnassigned, RowOne, StatesTwoApart, RowsTwoApart, InvertedIllegal, InvertedUnassigned, AnyListReadsBack, AnyListRefusesOthers, OneRowList}
+use Rattle.codewords.specs.Theorems.{StatesReadBack, OtherStatesIllegal, TwentyIllegal, RowsReadBack, OtherRowsUnassigned, ThirtySevenUnassigned, ReservedUnassigned, RowOne, StatesTwoApart, RowsTwoApart, InvertedIllegal, InvertedUnassigned, AnyListReadsBack, AnyListRefusesOthers, OneRowList, StateAnswered, RowAnswered}
+use Rattle.codewords.proofs.Answers.{state-answered, row-answered}
 use Rattle.codewords.proofs.RowList.{any-list-reads-back, any-list-refuses-others, one-row-list}
 use Rattle.codewords.proofs.ReadBack.{states-read-back, other-states-illegal, twenty-illegal, rows-read-back, other-rows-unassigned, thirty-seven-unassigned, reserved-unassigned, row-one}
 use Rattle.codewords.proofs.Apart.{states-two-apart, rows-two-apart, inverted-illegal, inverted-unassigned}
@@ -49,3 +50,9 @@ any-list-refuses-others′ = any-list-refuses-others
 
 one-row-list′ : OneRowList
 one-row-list′ = one-row-list
+
+state-answered′ : StateAnswered
+state-answered′ = state-answered
+
+row-answered′ : RowAnswered
+row-answered′ = row-answered
