@@ -3,12 +3,12 @@
 use Prim.Native.Nat.{ℕ, _+_, _-_}
 use mathlib.Core.Bool.{Bool, true, false, _&&_}
 use mathlib.Core.List.{List, [], _∷_}
-use lib.Dec.{leb, ltb, eqb}
+use lib.Dec.{leb, eqb}
 use lib.ListN.{length, take, drop}
 use Rattle.questions.specs.Questions.{Question}
 use Rattle.bits.specs.Bits.{number, isBit, isZero, all}
 use Rattle.calendar.specs.Calendar.{maxMinute}
-use Rattle.codewords.specs.CodeWords.{illegal, stateOf, unassigned}
+use Rattle.codewords.specs.CodeWords.{legalState, assignedRow}
 use Rattle.format.specs.Frame.{minFrame, syncWord, stateIn}
 use Rattle.format.specs.Entry.{Entry, entrySize}
 use Rattle.format.specs.Reading.{entryOf}
@@ -54,11 +54,11 @@ question8 f = eqb (number (take 13 f)) syncWord
 
 -- 9. Is the state word legal?
 abbrev pub question9 : List ℕ → Bool
-question9 f = ltb (stateOf (number (stateIn f))) illegal
+question9 f = legalState (number (stateIn f))
 
 -- 10. Is the next-change word assigned?
 abbrev pub question10 : Entry → Bool
-question10 e = ltb (e .row) unassigned
+question10 e = assignedRow (e .row)
 
 -- 11. Is the chosen minute at most 52,595,999?
 abbrev pub question11 : Entry → Bool
