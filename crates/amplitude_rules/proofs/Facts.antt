@@ -1,0 +1,127 @@
+-- The tests of values and of fields, as facts.
+-- Assumes nothing.
+use Prim.Native.Nat.{ℕ, _+_, _≤_, _<_}
+use mathlib.Core.Bool.{Bool, true, false, _&&_, _||_}
+use mathlib.Core.Logic.{_⊎_, inl, inr}
+use mathlib.Core.Path.{_≡_, refl, sym, ap}
+use native.Mathlib.Omega.{arith}
+use lib.Dec.{leb, ltb, eqb}
+use lib.IntN.{ℤ, pos, negsuc}
+use borrow.Author.Tests.{lt-ltb, ltb-true, le-leb, leb-true, eqb-true}
+use Rattle.bits.specs.Bits.{pick}
+use Rattle.bits.proofs.Tests.{both-true}
+use Rattle.gregorian.specs.Gregorian.{firstYear, leapYear, yearLength}
+use Rattle.calendar.specs.Calendar.{minuteCount, lastOfMonth}
+use Rattle.amplitude_rules.specs.declared.Fields.{Fields}
+use Rattle.amplitude_rules.specs.declared.Values.{Values}
+use Rattle.amplitude_rules.specs.Amplitude.{signBits, legalSign, legalUT1, leapMark, lengthFits, legalValues}
+use Rattle.amplitude_rules.specs.Reading.{signOf, realFields}
+
+-- values that fit each other, as facts
+pub record Legal (r : Values) : Type 0 where
+  pub minute : r .minute < minuteCount
+  pub sign : legalSign (r .sign) ≡ true
+  pub tenths : r .tenths ≤ 9
+  pub warning : r .warning ≤ 1
+  pub daylight : r .daylight ≤ 3
+  pub length : lengthFits (lastOfMonth (r .minute)) (r .warning) (r .seconds) ≡ true
+
+pub legal : (r : Values) → legalValues r ≡ true → Legal r
+unfolding legalValues legalUT1
+legal r h =
+    let a = both-true _ _ h in
+    let b = both-true _ _ (a .0) in
+    let c = both-true _ _ (b .0) in
+    let d = both-true _ _ (c .0) in
+    let u = both-true _ _ (d .1) in
+    record {
+      minute = ltb-true _ _ (d .0);
+      sign = u .0;
+      tenths = leb-true _ _ (u .1);
+      warning = leb-true _ _ (c .1);
+      daylight = leb-true _ _ (b .1);
+      length = a .1;
+    }
+
+pub legal-values : (r : Values) → Legal r → legalValues r ≡ true
+unfolding legalValues legalUT1
+legal-values r l = simp (lt-ltb _ _ (l .minute), l .sign, le-leb _ _ (l .tenths), le-leb _ _ (l .warning), le-leb _ _ (l .daylight), l .length)
+
+-- ---- the length
+
+-- a length that fits is 59, 60 or 61
+pub lengths : (last : Bool) (warning n : ℕ) → lengthFits last warning n ≡ true → (59 ≤ n) × (n ≤ 61)
+unfolding lengthFits
+lengths last warning n h = go (last && eqb warning 1) h
+  where
+    or : (a b : Bool) → (a || b) ≡ true → (a ≡ true) ⊎ (b ≡ true)
+    or true b h = inl refl
+    or false b h = inr h
+
+    two : (eqb n 59 ≡ true) ⊎ (eqb n 61 ≡ true) → (59 ≤ n) × (n ≤ 61)
+    two (inl e) = omega (arith, eqb-true n 59 e)
+    two (inr e) = omega (arith, eqb-true n 61 e)
+
+    go : (t : Bool) → pick t (eqb n 59 || eqb n 61) (eqb n 60) ≡ true → (59 ≤ n) × (n ≤ 61)
+    go true h = two (or (eqb n 59) (eqb n 61) h)
+    go false h = omega (arith, eqb-true n 60 h)
+
+-- ---- the UT1 sign
+
+pub sign-back : (z : ℤ) → legalSign z ≡ true → signOf (signBits z) ≡ z
+unfolding legalSign signOf signBits
+sign-back (pos n) h = ap pos (sym (eqb-true n 1 h))
+sign-back (negsuc n) h = ap negsuc (sym (eqb-true n 0 h))
+
+pub sign-real : (z : ℤ) → (eqb (signBits z) 0b101 || eqb (signBits z) 0b010) ≡ true
+unfolding signBits
+sign-real (pos n) = refl
+sign-real (negsuc n) = refl
+
+pub sign-small : (z : ℤ) → signBits z < 8
+unfolding signBits
+sign-small (pos n) = omega arith
+sign-small (negsuc n) = omega arith
+
+pub mark-small : (y : ℕ) → leapMark y < 2
+unfolding leapMark
+mark-small y = go (leapYear y)
+  where
+    go : (b : Bool) → pick b 1 0 < 2
+    go true = omega arith
+    go false = omega arith
+
+pub sign-forth : (b : ℕ) → (eqb b 0b101 || eqb b 0b010) ≡ true → (signBits (signOf b) ≡ b) × (legalSign (signOf b) ≡ true)
+unfolding signBits signOf legalSign
+sign-forth b h = go (eqb b 0b101) refl h
+  where
+    go : (t : Bool) → eqb b 0b101 ≡ t → (t || eqb b 0b010) ≡ true
+        → (signBits (pick t (pos 1) (negsuc 0)) ≡ b) × (legalSign (pick t (pos 1) (negsuc 0)) ≡ true)
+    go true e h = (sym (eqb-true b 0b101 e), refl)
+    go false e h = (sym (eqb-true b 0b010 h), refl)
+
+-- fields that are real
+pub record Real (x : Fields) : Type 0 where
+  pub sign : (eqb (x .sign) 0b101 || eqb (x .sign) 0b010) ≡ true
+  pub minute : x .minute < 60
+  pub hour : x .hour < 24
+  pub low : 1 ≤ x .day
+  pub high : x .day ≤ yearLength (firstYear + x .year)
+  pub leap : x .leap ≡ leapMark (firstYear + x .year)
+
+pub real : (x : Fields) → realFields x ≡ true → Real x
+unfolding realFields
+real x h =
+    let a = both-true _ _ h in
+    let b = both-true _ _ (a .0) in
+    let c = both-true _ _ (b .0) in
+    let d = both-true _ _ (c .0) in
+    let e = both-true _ _ (d .0) in
+    record {
+      sign = e .0;
+      minute = ltb-true _ _ (e .1);
+      hour = ltb-true _ _ (d .1);
+      low = leb-true _ _ (c .1);
+      high = leb-true _ _ (b .1);
+      leap = eqb-true _ _ (a .1);
+    }

@@ -1,0 +1,9 @@
+pub mod Facts
+pub mod Digits
+pub mod ReadBack
+pub mod Exact
+pub mod Dates
+pub mod Sent
+pub mod Refusals
+pub mod Examples
+pub mod Stated

@@ -1,0 +1,132 @@
+-- What the questions of reading and of writing decide, and the buffer after writing.
+-- Assumes nothing.
+use Prim.Native.Nat.{ℕ, _-_, _≤_, _<_}
+use mathlib.Core.Bool.{true, false}
+use mathlib.Core.List.{List, [], _∷_, _++_}
+use mathlib.Core.Path.{_≡_, refl, sym, ap, _∙_}
+use native.Mathlib.Omega.{arith}
+use lib.Dec.{leb, eqb}
+use lib.IntN.{ℤ}
+use lib.ListN.{length, take, drop, length-append, length-drop}
+use lib.Seq.{take-at, drop-at}
+use borrow.Author.Tests.{leb-true, ne-eqb}
+use Rattle.bits.specs.Bits.{pick}
+use Rattle.bits.specs.Numbers.{Numbers, found, refused as refusedWriting}
+use Rattle.questions.specs.Questions.{Question, asked, AllYes, FirstNo, numbersOf, oneOf}
+use Rattle.questions.proofs.Laws.{accepted-when, refused-when, answers-in, listed}
+use Rattle.calendar.specs.Calendar.{minuteCount, maxMinute}
+use Rattle.calendar.proofs.Answers.{values-when, number-alone-when, no-other}
+use Rattle.plan.specs.Plan.{legalPlan, lengthAt}
+use Rattle.plan.specs.declared.Plan.{Plan}
+use Rattle.amplitude_rules.specs.declared.Values.{Values}
+use Rattle.amplitude_rules.specs.Amplitude.{legalUT1, symbols}
+use Rattle.amplitude_rules.specs.Reading.{valuesIn, readQuestions, refused, accepted, readAmplitude}
+use Rattle.amplitude_rules.specs.Writing.{valuesAt, writeQuestions, writeAmplitude, bufferWritten}
+use Rattle.amplitude_rules.specs.Theorems.{ReadOrder, ReadAccepted, ReadRefused, ReadAnswers, WriteOrder, WriteAccepted, WriteRefused, WriteAnswers, Done, WriteDone, WriteUndone}
+use Rattle.amplitude_rules.proofs.Facts.{Legal}
+use Rattle.amplitude_rules.proofs.ReadBack.{length-of}
+use Rattle.amplitude_rules.proofs.Exact.{not-refused}
+use Rattle.amplitude_rules.proofs.Sent.{values-legal, sent-reads}
+
+-- ---- reading
+
+same-number : (n m : ℕ) → refused n ≡ refused m → n ≡ m
+same-number n m e = cc
+
+pub read-order : ReadOrder
+unfolding numbersOf readQuestions
+read-order s = refl
+
+pub read-accepted : ReadAccepted
+unfolding readAmplitude
+read-accepted s = accepted-when refused (accepted (valuesIn s)) (readQuestions s) (λ n p e. not-refused n (valuesIn s) e)
+
+pub read-refused : ReadRefused
+unfolding readAmplitude
+read-refused s n = refused-when refused (accepted (valuesIn s)) (readQuestions s) same-number n (not-refused n (valuesIn s))
+
+pub read-answers : ReadAnswers
+unfolding readAmplitude
+read-answers s = rw (read-order s) at (answers-in refused (accepted (valuesIn s)) (readQuestions s))
+
+-- ---- writing
+
+pub write-order : WriteOrder
+unfolding numbersOf writeQuestions
+write-order p t sign tenths space = refl
+
+pub write-accepted : WriteAccepted
+unfolding writeAmplitude
+write-accepted p t sign tenths space = values-when (writeQuestions p t sign tenths space) _ _
+
+pub write-refused : WriteRefused
+unfolding writeAmplitude
+write-refused p t sign tenths space = number-alone-when (writeQuestions p t sign tenths space) _ _
+
+pub write-answers : WriteAnswers
+unfolding writeAmplitude
+write-answers p t sign tenths space = no-other (writeQuestions p t sign tenths space) _ _ _ (write-order p t sign tenths space)
+
+-- ---- the buffer after writing
+
+module _ (p : Plan) (t : ℕ) (sign : ℤ) (tenths : ℕ) (buffer : List ℕ) where
+  abbrev n : ℕ
+  n = lengthAt p t
+
+  abbrev r : Values
+  r = valuesAt p t sign tenths
+
+  abbrev after : List ℕ
+  after = bufferWritten p t sign tenths buffer
+
+  -- every question is answered yes
+  module _ (yes : AllYes (writeQuestions p t sign tenths (length buffer))) where
+    fits : Legal r
+    unfolding writeQuestions
+    fits = values-legal p t sign tenths (omega (arith, leb-true t maxMinute (yes .1 .0))) (yes .1 .1 .0)
+
+    room : n ≤ length buffer
+    unfolding writeQuestions
+    room = leb-true n (length buffer) (yes .1 .1 .1 .0)
+
+    symbols-length : length (symbols r) ≡ n
+    unfolding valuesAt
+    symbols-length = length-of r fits
+
+    written : after ≡ symbols r ++ drop n buffer
+    unfolding bufferWritten
+    written = rw (write-accepted p t sign tenths (length buffer) .1 yes)
+
+    front : take n after ≡ symbols r
+    front = rw written (take-at (symbols r) (drop n buffer) n symbols-length)
+
+    reads : readAmplitude (symbols r) ≡ accepted r
+    unfolding writeQuestions
+    reads = sent-reads p t sign tenths (yes .0) (omega (arith, leb-true t maxMinute (yes .1 .0))) (yes .1 .1 .0)
+
+    done : Done p t sign tenths buffer
+    done =
+        record {
+          written = front;
+          rest = rw written (drop-at (symbols r) (drop n buffer) n symbols-length);
+          length = ap length written ∙ length-append (symbols r) (drop n buffer) ∙ omega (arith, symbols-length, length-drop n buffer, room);
+          read = ap readAmplitude front ∙ reads;
+        }
+
+  -- the numbers of the questions are above 0
+  above : (k : ℕ) → FirstNo (writeQuestions p t sign tenths (length buffer)) k → eqb k 0 ≡ false
+  unfolding oneOf
+  above k first = go k (rw (write-order p t sign tenths (length buffer)) at (listed (writeQuestions p t sign tenths (length buffer)) k first))
+    where
+      go : (k : ℕ) → oneOf (1 ∷ 3 ∷ 18 ∷ 4 ∷ []) k ≡ true → eqb k 0 ≡ false
+      go k h = ne-eqb k 0 (λ e. absurd (let z : false ≡ true = rw e at h in let w : _≡_ {A = ℕ} 0 1 = cc in omega arith))
+
+  undone : (k : ℕ) → FirstNo (writeQuestions p t sign tenths (length buffer)) k → after ≡ buffer
+  unfolding bufferWritten
+  undone k first = rw (write-refused p t sign tenths (length buffer) k .1 first, above k first)
+
+pub write-done : WriteDone
+write-done = done
+
+pub write-undone : WriteUndone
+write-undone = undone

@@ -1,0 +1,62 @@
+-- Every statement of specs with its proof: where a proof is missing, this module is not proved.
+-- Assumes nothing.
+use Rattle.amplitude_rules.specs.Theorems.{ReadExactly, SymbolsApart, FieldsOfDate, SentReads, WarnedMonth, BothCodes, Table10, LeapMinutes, ReadOrder, ReadAccepted, ReadRefused, ReadAnswers, WriteOrder, WriteAccepted, WriteRefused, WriteAnswers, WriteDone, WriteUndone}
+use Rattle.amplitude_rules.proofs.Exact.{read-exactly, symbols-apart}
+use Rattle.amplitude_rules.proofs.Dates.{fields-of-date}
+use Rattle.amplitude_rules.proofs.Sent.{sent-reads, warned-month, both-codes}
+use Rattle.amplitude_rules.proofs.Examples.{table-10, leap-minutes}
+use Rattle.amplitude_rules.proofs.Refusals.{read-order, read-accepted, read-refused, read-answers, write-order, write-accepted, write-refused, write-answers, write-done, write-undone}
+
+read-exactly′ : ReadExactly
+read-exactly′ = read-exactly
+
+symbols-apart′ : SymbolsApart
+symbols-apart′ = symbols-apart
+
+fields-of-date′ : FieldsOfDate
+fields-of-date′ = fields-of-date
+
+sent-reads′ : SentReads
+sent-reads′ = sent-reads
+
+warned-month′ : WarnedMonth
+warned-month′ = warned-month
+
+both-codes′ : BothCodes
+both-codes′ = both-codes
+
+table-10′ : Table10
+table-10′ = table-10
+
+leap-minutes′ : LeapMinutes
+leap-minutes′ = leap-minutes
+
+read-order′ : ReadOrder
+read-order′ = read-order
+
+read-accepted′ : ReadAccepted
+read-accepted′ = read-accepted
+
+read-refused′ : ReadRefused
+read-refused′ = read-refused
+
+read-answers′ : ReadAnswers
+read-answers′ = read-answers
+
+write-order′ : WriteOrder
+write-order′ = write-order
+
+write-accepted′ : WriteAccepted
+write-accepted′ = write-accepted
+
+write-refused′ : WriteRefused
+write-refused′ = write-refused
+
+write-answers′ : WriteAnswers
+write-answers′ = write-answers
+
+write-done′ : WriteDone
+write-done′ = write-done
+
+write-undone′ : WriteUndone
+write-undone′ = write-undone

@@ -1,0 +1,176 @@
+-- What is proved of the amplitude code (document 02, 5, "The amplitude code as well").
+-- Assumes nothing.
+use Prim.Native.Nat.{ℕ, _+_, _-_, _<_}
+use mathlib.Core.Bool.{true}
+use mathlib.Core.List.{List, [], _∷_, _++_}
+use mathlib.Core.Logic.{_↔_, _⊎_, _≢_}
+use mathlib.Core.Path.{_≡_}
+use lib.IntN.{ℤ, pos, negsuc}
+use lib.ListN.{length, take, drop}
+use Rattle.bits.specs.Numbers.{found, refused as refusedWriting}
+use Rattle.questions.specs.Questions.{AllYes, FirstNo, numbersOf, oneOf}
+use Rattle.gregorian.specs.Gregorian.{firstYear, monthsOf, before}
+use Rattle.calendar.specs.Calendar.{minuteCount, dateAt, monthIndex}
+use Rattle.plan.specs.Plan.{legalPlan, lengthAt}
+use Rattle.plan.specs.declared.Plan.{Plan}
+use Rattle.format.specs.Frame.{sentBy, frame}
+use Rattle.format.specs.Entry.{Entry, entrySize, entryBytes}
+use Rattle.format.specs.Received.{Reception, isReception, received}
+use Rattle.format.specs.Questions.{start}
+use Rattle.format.specs.Next.{OneOutcome, readOne}
+use Rattle.sequence.specs.Demand.{SpaceEnough}
+use Rattle.sequence.specs.Bench.{rows10And37}
+use Rattle.amplitude_rules.specs.declared.Values.{Values}
+use Rattle.amplitude_rules.specs.Amplitude.{legalUT1, legalValues, fieldsOf, symbols}
+use Rattle.amplitude_rules.specs.Reading.{valuesIn, readQuestions, refused, accepted, readAmplitude}
+use Rattle.amplitude_rules.specs.Writing.{warningAt, valuesAt, writeQuestions, writeAmplitude, bufferWritten}
+
+-- ---- symbols and values
+
+-- symbols are accepted with the values r exactly when these fit each other and the symbols are theirs
+abbrev pub ReadExactly : Type 0
+ReadExactly = (s : List ℕ) (r : Values) → readAmplitude s ≡ accepted r ↔ ((legalValues r ≡ true) × (s ≡ symbols r))
+
+-- different values give different symbols
+abbrev pub SymbolsApart : Type 0
+SymbolsApart = (q r : Values) → legalValues q ≡ true → legalValues r ≡ true → q ≢ r → symbols q ≢ symbols r
+
+-- the fields are those of the minute's date: its minute, its hour, its day of the year from 1, and its year from 2000
+pub record DateFields (r : Values) : Type 0 where
+  pub minute : fieldsOf r .minute ≡ dateAt (r .minute) .minute
+  pub hour : fieldsOf r .hour ≡ dateAt (r .minute) .hour
+  pub day : fieldsOf r .day ≡ before (monthsOf (dateAt (r .minute) .year)) (dateAt (r .minute) .month - 1) + dateAt (r .minute) .day
+  pub year : firstYear + fieldsOf r .year ≡ dateAt (r .minute) .year
+
+abbrev pub FieldsOfDate : Type 0
+FieldsOfDate = (r : Values) → r .minute < minuteCount → DateFields r
+
+-- ---- a plan's minute
+
+-- what a legal plan gives a minute reads back: date, UT1, warning, daylight state and length
+abbrev pub SentReads : Type 0
+SentReads =
+    (p : Plan) (t : ℕ) (sign : ℤ) (tenths : ℕ) → legalPlan p ≡ true → t < minuteCount → legalUT1 sign tenths ≡ true
+    → readAmplitude (symbols (valuesAt p t sign tenths)) ≡ accepted (valuesAt p t sign tenths)
+
+-- the warning is 1 in every minute of the month with a leap second, and in no other
+abbrev pub WarnedMonth : Type 0
+WarnedMonth =
+    (p : Plan) (t : ℕ) → legalPlan p ≡ true
+    → warningAt p t ≡ 1 ↔ ((p .«leap_sign» ≢ pos 0) × (monthIndex t ≡ p .«leap_month»))
+
+-- r and e are what the readers of the two codes give for minute t, and tell the same date, daylight state and length
+pub record SameMinute (t : ℕ) (r : Values) (e : Entry) : Type 0 where
+  pub date : dateAt (r .minute) ≡ dateAt t
+  pub entryDate : dateAt (e .minute) ≡ dateAt t
+  pub daylight : r .daylight ≡ e .daylight
+  pub length : r .seconds ≡ e .seconds
+
+-- for one plan and minute both codes read to the same date, daylight state and length, whatever the frame's reception (document 02, 2)
+abbrev pub BothCodes : Type 0
+BothCodes =
+    (p : Plan) (t : ℕ) (sign : ℤ) (tenths : ℕ) (x : Reception) (buffer : List ℕ)
+    → legalPlan p ≡ true → t < minuteCount → legalUT1 sign tenths ≡ true → isReception x ≡ true → SpaceEnough 1 buffer
+    → (r : Values) × (e : Entry)
+    × (readAmplitude (symbols (valuesAt p t sign tenths)) ≡ accepted r)
+    × (_≡_ {A = OneOutcome} (readOne start buffer (received x (frame (sentBy p t)))) (record { refusal = 0; buffer = entryBytes e ++ drop entrySize buffer }))
+    × SameMinute t r e
+
+-- ---- worked examples
+
+-- source document 002, Table 10: 2012-07-04 17:30, UT1 plus 0.4 s
+abbrev pub Table10 : Type 0
+Table10 =
+    symbols (valuesAt (rows10And37 0 (pos 0) 0) 6_578_970 (pos 1) 4)
+    ≡ 2 ∷ 0 ∷ 1 ∷ 1 ∷ 0 ∷ 0 ∷ 0 ∷ 0 ∷ 0 ∷ 2
+    ∷ 0 ∷ 0 ∷ 0 ∷ 1 ∷ 0 ∷ 0 ∷ 1 ∷ 1 ∷ 1 ∷ 2
+    ∷ 0 ∷ 0 ∷ 0 ∷ 1 ∷ 0 ∷ 1 ∷ 0 ∷ 0 ∷ 0 ∷ 2
+    ∷ 0 ∷ 1 ∷ 1 ∷ 0 ∷ 0 ∷ 0 ∷ 1 ∷ 0 ∷ 1 ∷ 2
+    ∷ 0 ∷ 1 ∷ 0 ∷ 0 ∷ 0 ∷ 0 ∷ 0 ∷ 0 ∷ 1 ∷ 2
+    ∷ 0 ∷ 0 ∷ 1 ∷ 0 ∷ 0 ∷ 1 ∷ 0 ∷ 1 ∷ 1 ∷ 2 ∷ []
+
+-- seconds 0 to 58 of 2012-06-30 23:59 with the warning, UT1 minus 0.6 s
+abbrev pub lastOfJune : List ℕ
+lastOfJune =
+    2 ∷ 1 ∷ 0 ∷ 1 ∷ 0 ∷ 1 ∷ 0 ∷ 0 ∷ 1 ∷ 2
+    ∷ 0 ∷ 0 ∷ 1 ∷ 0 ∷ 0 ∷ 0 ∷ 0 ∷ 1 ∷ 1 ∷ 2
+    ∷ 0 ∷ 0 ∷ 0 ∷ 1 ∷ 0 ∷ 1 ∷ 0 ∷ 0 ∷ 0 ∷ 2
+    ∷ 0 ∷ 0 ∷ 1 ∷ 0 ∷ 0 ∷ 0 ∷ 0 ∷ 1 ∷ 0 ∷ 2
+    ∷ 0 ∷ 1 ∷ 1 ∷ 0 ∷ 0 ∷ 0 ∷ 0 ∷ 0 ∷ 1 ∷ 2
+    ∷ 0 ∷ 0 ∷ 1 ∷ 0 ∷ 0 ∷ 1 ∷ 1 ∷ 1 ∷ 1 ∷ []
+
+-- with a leap second of each sign at the end of June 2012, month 149: 61 and 59 symbols
+abbrev pub LeapMinutes : Type 0
+LeapMinutes =
+    (symbols (valuesAt (rows10And37 149 (pos 1) 0) 6_573_599 (negsuc 0) 6) ≡ lastOfJune ++ (2 ∷ 2 ∷ []))
+    × (symbols (valuesAt (rows10And37 149 (negsuc 0) 0) 6_573_599 (negsuc 0) 6) ≡ lastOfJune)
+
+-- ---- the refusals of reading
+
+-- the numbers of the questions, in their order
+abbrev pub readRefusals : List ℕ
+readRefusals = 17 ∷ 18 ∷ []
+
+abbrev pub ReadOrder : Type 0
+ReadOrder = (s : List ℕ) → numbersOf (readQuestions s) ≡ readRefusals
+
+-- the values exactly when every question is answered yes
+abbrev pub ReadAccepted : Type 0
+ReadAccepted = (s : List ℕ) → readAmplitude s ≡ accepted (valuesIn s) ↔ AllYes (readQuestions s)
+
+-- n alone exactly when the questions before n are answered yes and question n is not
+abbrev pub ReadRefused : Type 0
+ReadRefused = (s : List ℕ) (n : ℕ) → readAmplitude s ≡ refused n ↔ FirstNo (readQuestions s) n
+
+-- there is no other answer, and a refusal is one of the numbers
+abbrev pub ReadAnswers : Type 0
+ReadAnswers =
+    (s : List ℕ) → (readAmplitude s ≡ accepted (valuesIn s)) ⊎ ((n : ℕ) × (oneOf readRefusals n ≡ true) × (readAmplitude s ≡ refused n))
+
+-- ---- the refusals of writing
+
+-- the numbers of the questions, in their order
+abbrev pub writeRefusals : List ℕ
+writeRefusals = 1 ∷ 3 ∷ 18 ∷ 4 ∷ []
+
+abbrev pub WriteOrder : Type 0
+WriteOrder = (p : Plan) (t : ℕ) (sign : ℤ) (tenths space : ℕ) → numbersOf (writeQuestions p t sign tenths space) ≡ writeRefusals
+
+-- 0 and the number of symbols exactly when every question is answered yes
+abbrev pub WriteAccepted : Type 0
+WriteAccepted =
+    (p : Plan) (t : ℕ) (sign : ℤ) (tenths space : ℕ)
+    → writeAmplitude p t sign tenths space ≡ found (lengthAt p t ∷ []) ↔ AllYes (writeQuestions p t sign tenths space)
+
+-- k alone exactly when the questions before k in the list are answered yes and question k is not
+abbrev pub WriteRefused : Type 0
+WriteRefused =
+    (p : Plan) (t : ℕ) (sign : ℤ) (tenths space k : ℕ)
+    → writeAmplitude p t sign tenths space ≡ refusedWriting k ↔ FirstNo (writeQuestions p t sign tenths space) k
+
+-- there is no other answer, and a refusal is one of the numbers
+abbrev pub WriteAnswers : Type 0
+WriteAnswers =
+    (p : Plan) (t : ℕ) (sign : ℤ) (tenths space : ℕ)
+    → (writeAmplitude p t sign tenths space ≡ found (lengthAt p t ∷ []))
+    ⊎ ((k : ℕ) × (oneOf writeRefusals k ≡ true) × (writeAmplitude p t sign tenths space ≡ refusedWriting k))
+
+-- accepted: the symbols stand first in the buffer and read back as sent, and the bytes after them are as before
+pub record Done (p : Plan) (t : ℕ) (sign : ℤ) (tenths : ℕ) (buffer : List ℕ) : Type 0 where
+  pub written : take (lengthAt p t) (bufferWritten p t sign tenths buffer) ≡ symbols (valuesAt p t sign tenths)
+  pub rest : drop (lengthAt p t) (bufferWritten p t sign tenths buffer) ≡ drop (lengthAt p t) buffer
+  pub length : length (bufferWritten p t sign tenths buffer) ≡ length buffer
+  pub read : readAmplitude (take (lengthAt p t) (bufferWritten p t sign tenths buffer)) ≡ accepted (valuesAt p t sign tenths)
+
+abbrev pub WriteDone : Type 0
+WriteDone =
+    (p : Plan) (t : ℕ) (sign : ℤ) (tenths : ℕ) (buffer : List ℕ)
+    → AllYes (writeQuestions p t sign tenths (length buffer))
+    → Done p t sign tenths buffer
+
+-- refused: the buffer is as it was
+abbrev pub WriteUndone : Type 0
+WriteUndone =
+    (p : Plan) (t : ℕ) (sign : ℤ) (tenths : ℕ) (buffer : List ℕ) (k : ℕ)
+    → FirstNo (writeQuestions p t sign tenths (length buffer)) k
+    → bufferWritten p t sign tenths buffer ≡ buffer

@@ -1,0 +1,48 @@
+-- Writing a minute of the amplitude code: questions 1, 3, 18 and 4, in this order, and the symbols (document 02, 5, "The amplitude code as well").
+-- Assumes nothing.
+use Prim.Native.Nat.{ℕ}
+use mathlib.Core.List.{List, [], _∷_, _++_}
+use lib.Dec.{leb, eqb}
+use lib.IntN.{ℤ}
+use lib.ListN.{length, drop}
+use Rattle.bits.specs.Bits.{pick}
+use Rattle.bits.specs.Numbers.{Numbers, found, refused}
+use Rattle.questions.specs.Questions.{Question, asked}
+use Rattle.calendar.specs.Calendar.{maxMinute}
+use Rattle.codewords.specs.CodeWords.{daylightNumber, leapNumber}
+use Rattle.plan.specs.Plan.{legalPlan, daylightAt, leapAt, lengthAt}
+use Rattle.plan.specs.declared.Plan.{Plan}
+use Rattle.amplitude_rules.specs.declared.Values.{Values}
+use Rattle.amplitude_rules.specs.Amplitude.{legalUT1, symbols}
+
+-- the leap warning of minute t: 1 while the leap state isn't none, so in every minute of the leap month
+unfoldable pub warningAt : Plan → ℕ → ℕ
+warningAt p t = pick (eqb (leapNumber (leapAt p t)) 0) 0 1
+
+-- the values of minute t by a plan, with the caller's UT1
+unfoldable pub valuesAt : Plan → ℕ → ℤ → ℕ → Values
+valuesAt p t sign tenths =
+    record {
+      minute = t;
+      sign = sign;
+      tenths = tenths;
+      warning = warningAt p t;
+      daylight = daylightNumber (daylightAt p t);
+      seconds = lengthAt p t;
+    }
+
+-- the questions, in their order: the plan is legal; the minute is at most the last; UT1 is legal; the buffer of so many bytes holds the symbols
+unfoldable pub writeQuestions : Plan → ℕ → ℤ → ℕ → ℕ → List Question
+writeQuestions p t sign tenths space =
+    (1, legalPlan p) ∷ (3, leb t maxMinute) ∷ (18, legalUT1 sign tenths) ∷ (4, leb (lengthAt p t) space) ∷ []
+
+-- what writing gives: 0 and the number of symbols, or the refusal alone
+unfoldable pub writeAmplitude : Plan → ℕ → ℤ → ℕ → ℕ → Numbers
+writeAmplitude p t sign tenths space = asked refused (writeQuestions p t sign tenths space) (found (lengthAt p t ∷ []))
+
+-- the buffer after writing: the symbols and what stood after them, or the buffer as it was
+unfoldable pub bufferWritten : Plan → ℕ → ℤ → ℕ → List ℕ → List ℕ
+bufferWritten p t sign tenths buffer =
+    pick (eqb (writeAmplitude p t sign tenths (length buffer) .number) 0)
+    (symbols (valuesAt p t sign tenths) ++ drop (lengthAt p t) buffer)
+    buffer

@@ -1,0 +1,1 @@
+// Rows of symbols: definitions and laws, no code.
