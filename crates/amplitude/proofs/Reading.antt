@@ -1,4 +1,4 @@
--- Laws of reading: real fields, and what they values_of.
+-- Laws of reading: real fields, their values, and the two questions.
 -- Assumes nothing.
 use Prim.Native.Nat.{ℕ, _+_, _-_, _*_, _≤_, _<_}
 use mathlib.Core.Bool.{Bool, true, false, _&&_}
@@ -13,14 +13,16 @@ use mir.Val.{ofZ, toZ}
 use borrow.Author.Tests.{leb-true}
 use Rattle.bits.specs.Bits.{pick, all}
 use Rattle.bits.proofs.Tests.{head-true, tail-true}
+use Rattle.questions.specs.Questions.{asked}
 use Rattle.symbols.specs.Symbols.{fits}
 use Rattle.gregorian.specs.Gregorian.{firstYear, yearCount, leapYear, monthLengths, monthsOf, yearLength, yearLengths, before}
 use Rattle.gregorian.proofs.Years.{before-closed}
 use Rattle.calendar.specs.Calendar.{lastOfMonth}
-use Rattle.amplitude_rules.specs.Amplitude.{table1, isMark, fieldsFrom, signOf, leapMark, lengthFits, layoutFits, numbersIn, valuesOf, decimalDigits, realFields, fieldsFit, accepted, refused, readAmplitude}
+use Rattle.amplitude_rules.specs.Amplitude.{table1, leapMark, lengthFits}
+use Rattle.amplitude_rules.specs.Reading.{isMark, fieldsFrom, signOf, layoutFits, numbersIn, valuesOf, decimalDigits, realFields, fieldsFit, readQuestions, accepted, refused, readAmplitude}
 use Rattle.amplitude_rules.specs.declared.Fields.{Fields}
 use Rattle.amplitude_rules.specs.declared.Values.{Values}
-use Rattle.amplitude_rules.proofs.ReadBack.{Real, real}
+use Rattle.amplitude_rules.proofs.Facts.{Real, real}
 use Rattle.amplitude_row.specs.Row.{lowNumbers}
 use Rattle.amplitude_row.proofs.Rows.{low-is}
 use Rattle.amplitude.specs.Answer.{fieldsAnswer}
@@ -97,7 +99,7 @@ module _ (v : List ℕ) (n : ℕ) where
       values-is = t ∙ ap (λ (y : Fields). valuesOf y n) e
 
       fits-is : (b : Bool) → lengthFits (lastOfMonth (r .minute)) (r .warning) (r .seconds) ≡ b
-          → lengthFits (lastOfMonth (valuesOf (fieldsFrom v) n .minute)) (fieldsFrom v .warning) n ≡ b
+          → lengthFits (lastOfMonth (valuesOf (fieldsFrom v) n .minute)) (valuesOf (fieldsFrom v) n .warning) n ≡ b
       unfolding valuesOf
       fits-is b k = ap (λ (q : Values). lengthFits (lastOfMonth (q .minute)) (q .warning) (q .seconds)) (sym values-is) ∙ k
 
@@ -112,7 +114,7 @@ module _ (v : List ℕ) (n : ℕ) where
 -- question 17
 module _ (s : List ℕ) where
   pub no-layout : layoutFits s ≡ false → refused 17 ≡ readAmplitude s
-  unfolding readAmplitude
+  unfolding readAmplitude readQuestions asked
   no-layout h = rw h
 
   module _ (h : layoutFits s ≡ true) where
@@ -139,5 +141,5 @@ module _ (s : List ℕ) where
     row-fits = tail-true (long && short) row three-true
 
     pub by-fields : (v : List ℕ) → v ≡ lowNumbers (take 59 s) → fieldsAnswer v (length s) ≡ readAmplitude s
-    unfolding readAmplitude fieldsFit fieldsAnswer numbersIn
+    unfolding readAmplitude readQuestions asked fieldsFit fieldsAnswer numbersIn
     by-fields v e = rw (h, e ∙ low-is (take 59 s) row-fits)

@@ -1,4 +1,4 @@
--- Laws of writing: UT1, what a minute fieldsOf, and symbols behind a row.
+-- Laws of writing: UT1, the fields of values, and markers after a row.
 -- Assumes nothing.
 use Prim.Native.Nat.{ℕ, zero, suc, _+_, _-_, _≤_, _<_}
 use mathlib.Core.Bool.{Bool, true, false, false≢true}
@@ -16,7 +16,8 @@ use Rattle.amplitude_rules.specs.Amplitude.{table1, digits, signBits, legalSign
 use Rattle.amplitude_rules.specs.declared.Fields.{Fields}
 use Rattle.amplitude_rules.specs.declared.Values.{Values}
 use Rattle.amplitude_rules.proofs.Digits.{Small}
-use Rattle.amplitude_rules.proofs.ReadBack.{Legal, legal, lengths, small}
+use Rattle.amplitude_rules.proofs.Facts.{Legal, legal, lengths}
+use Rattle.amplitude_rules.proofs.ReadBack.{small}
 
 -- ---- signs
 
@@ -43,7 +44,7 @@ legal-through (pos (suc (suc k))) h = let e = eqb-true (suc (suc k)) 1 h in absu
 legal-through (negsuc zero) h = refl
 legal-through (negsuc (suc k)) h = let e = eqb-true (suc k) 0 h in absurd (omega arith)
 
--- ---- what a minute fieldsOf is small
+-- ---- the fields of legal values are small
 
 pub small-parts : (r : Values) (x : Fields) → legalValues r ≡ true → x ≡ fieldsOf r
     → (x .minute < 60) × (x .hour < 24) × (x .day < 400) × (x .sign < 8) × (x .tenths ≤ 9) × (x .year < 100) × (x .leap < 2) × (x .warning < 2) × (x .daylight < 4)
@@ -54,11 +55,11 @@ small-parts r x h e =
 pub values-length : (r : Values) → legalValues r ≡ true → (59 ≤ r .seconds) × (r .seconds ≤ 61)
 values-length r h = lengths _ (r .warning) (r .seconds) (legal r h .length)
 
--- ---- markers behind a row
+-- ---- markers after a row
 
--- a symbol put behind a list that was written
-behind : (w out : List ℕ) (n : ℕ) → length w ≡ n → n < length out → set (w ++ drop n out) n 2 ≡ (w ++ (2 ∷ [])) ++ drop (suc n) out
-behind w out n e h =
+-- a marker put after a list that was written
+marked : (w out : List ℕ) (n : ℕ) → length w ≡ n → n < length out → set (w ++ drop n out) n 2 ≡ (w ++ (2 ∷ [])) ++ drop (suc n) out
+marked w out n e h =
     ap (λ (l : List ℕ). set (w ++ l) n 2) (drop-cons out n 0 h)
     ∙ set-at w (getD out n 0) (drop (suc n) out) 2 n e
     ∙ sym (append-assoc w (2 ∷ []) (drop (suc n) out))
@@ -71,14 +72,14 @@ module _ (w out l : List ℕ) (n : ℕ) (e : length w ≡ 59) (h : l ≡ take (l
   row-59 k = copied ∙ rw k (ap (λ (v : List ℕ). v ++ drop 59 out) (sym (append-nil w)))
 
   pub row-60 : n ≡ 60 → 60 ≤ length out → set l 59 2 ≡ w ++ replicate (n - 59) 2 ++ drop n out
-  row-60 k b = ap (λ (v : List ℕ). set v 59 2) copied ∙ rw k (behind w out 59 e (omega arith))
+  row-60 k b = ap (λ (v : List ℕ). set v 59 2) copied ∙ rw k (marked w out 59 e (omega arith))
 
   pub row-61 : n ≡ 61 → 61 ≤ length out → set (set l 59 2) 60 2 ≡ w ++ replicate (n - 59) 2 ++ drop n out
   row-61 k b =
       let f : length (w ++ (2 ∷ [])) ≡ 60 = omega (arith, length-append w (2 ∷ []), e) in
       ap (λ (v : List ℕ). set (set v 59 2) 60 2) copied
-      ∙ ap (λ (v : List ℕ). set v 60 2) (behind w out 59 e (omega arith))
-      ∙ behind (w ++ (2 ∷ [])) out 60 f (omega arith)
+      ∙ ap (λ (v : List ℕ). set v 60 2) (marked w out 59 e (omega arith))
+      ∙ marked (w ++ (2 ∷ [])) out 60 f (omega arith)
       ∙ rw k (ap (λ (v : List ℕ). v ++ drop 61 out) (append-assoc w (2 ∷ []) (2 ∷ [])))
 
 -- the symbols of a minute, from its row

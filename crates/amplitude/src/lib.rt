@@ -9,8 +9,9 @@ ghost use Rattle.gregorian.specs.Gregorian.{firstYear, yearCount};
 ghost use Rattle.calendar.specs.Calendar.{minuteCount, lastOfMonth};
 ghost use Rattle.codewords.specs.CodeWords.{daylightNumber};
 ghost use Rattle.plan.specs.Plan.{daylightAt};
-ghost use Rattle.amplitude_rules.specs.Amplitude.{digits, fieldsFrom, signBits, signOf, legalSign, legalUT1, leapMark, lengthFits, legalValues, fieldsOf, symbols, warningAt, valuesAt, valuesOf, decimalDigits, realFields, readAmplitude};
-ghost use Rattle.amplitude_rules.specs.Writing.{writeAmplitude, bufferWritten};
+ghost use Rattle.amplitude_rules.specs.Amplitude.{digits, signBits, legalSign, legalUT1, leapMark, lengthFits, legalValues, fieldsOf, symbols};
+ghost use Rattle.amplitude_rules.specs.Reading.{fieldsFrom, signOf, valuesOf, decimalDigits, realFields, readAmplitude};
+ghost use Rattle.amplitude_rules.specs.Writing.{warningAt, valuesAt, writeAmplitude, bufferWritten};
 ghost use Rattle.amplitude_row.specs.Row.{rowNumbers};
 ghost use Rattle.amplitude.specs.Answer.{writeRefusalNumber, writeNumbers, answerOf, fieldsAnswer};
 use amplitude_row::Row;
@@ -194,9 +195,9 @@ fn read_row(d: Row, seconds: u32) -> ReadAnswer
     if !has_real_fields(x) {
         return ReadAnswer::BadValue;
     }
-    let accepted = values_of(x, seconds);
-    if length_fits(accepted.minute, accepted.warning, accepted.seconds) {
-        ReadAnswer::Read(accepted)
+    let values = values_of(x, seconds);
+    if length_fits(values.minute, values.warning, values.seconds) {
+        ReadAnswer::Read(values)
     } else {
         ReadAnswer::BadValue
     }
@@ -378,11 +379,11 @@ pub fn write_minute(plan: Plan, minute: u32, sign: i32, tenths: u32, out: &mut [
     if !is_ut1(sign, tenths) {
         return WriteAnswer::Refused(WriteRefusal::Ut1);
     }
-    let accepted = values_at(plan, minute, sign, tenths);
-    let needed = accepted.seconds as usize;
+    let values = values_at(plan, minute, sign, tenths);
+    let needed = values.seconds as usize;
     if out.len() < needed {
         return WriteAnswer::Refused(WriteRefusal::Space);
     }
-    put(accepted, out);
+    put(values, out);
     WriteAnswer::Written(needed)
 }

@@ -93,12 +93,12 @@ module _ (p : Plan) (t : ℕ) (sign : ℤ) (tenths : ℕ) (buffer : List ℕ) wh
     unfolding valuesAt
     symbols-length = length-of r fits
 
-    written : after ≡ symbols r ++ drop n buffer
+    pub buffer-done : after ≡ symbols r ++ drop n buffer
     unfolding bufferWritten
-    written = rw (write-accepted p t sign tenths (length buffer) .1 yes)
+    buffer-done = rw (write-accepted p t sign tenths (length buffer) .1 yes)
 
     front : take n after ≡ symbols r
-    front = rw written (take-at (symbols r) (drop n buffer) n symbols-length)
+    front = rw buffer-done (take-at (symbols r) (drop n buffer) n symbols-length)
 
     reads : readAmplitude (symbols r) ≡ accepted r
     unfolding writeQuestions
@@ -108,8 +108,8 @@ module _ (p : Plan) (t : ℕ) (sign : ℤ) (tenths : ℕ) (buffer : List ℕ) wh
     done =
         record {
           written = front;
-          rest = rw written (drop-at (symbols r) (drop n buffer) n symbols-length);
-          length = ap length written ∙ length-append (symbols r) (drop n buffer) ∙ omega (arith, symbols-length, length-drop n buffer, room);
+          rest = rw buffer-done (drop-at (symbols r) (drop n buffer) n symbols-length);
+          length = ap length buffer-done ∙ length-append (symbols r) (drop n buffer) ∙ omega (arith, symbols-length, length-drop n buffer, room);
           read = ap readAmplitude front ∙ reads;
         }
 

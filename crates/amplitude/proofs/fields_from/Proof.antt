@@ -1,6 +1,6 @@
 -- `amplitude::fields_from` meets its contract.
 -- Assumes nothing.
-use Rattle.amplitude_rules.specs.Amplitude.{fieldsFrom}
+use Rattle.amplitude_rules.specs.Reading.{fieldsFrom}
 use borrow.Author.Needs.{needs}
 use Rattle.amplitude.proofs.fields_from.Statement.{statement}
 use Rattle.amplitude.proofs.fields_from.Tie as tie

@@ -4,7 +4,7 @@ use Prim.Native.Nat.{_/_}
 use mathlib.Core.Path.{_≡_, sym, ap, subst, _∙_}
 use native.Mathlib.Omega.{arith}
 use Rattle.gregorian.proofs.Months.{placed, year-low, year-rest-is, year-index}
-use Rattle.amplitude_rules.proofs.ReadBack.{Legal, legal}
+use Rattle.amplitude_rules.proofs.Facts.{Legal, legal}
 use Rattle.amplitude_rules.specs.Amplitude.{legalSign, fieldsOf}
 use Rattle.amplitude.proofs.Written.{legal-through}
 use borrow.Author.Needs.{needs}

@@ -1,7 +1,7 @@
 -- `amplitude::has_decimal_digits` meets its contract.
 -- Assumes nothing.
 use borrow.Author.Tests.{le-leb, lt-leb}
-use Rattle.amplitude_rules.specs.Amplitude.{decimalDigits}
+use Rattle.amplitude_rules.specs.Reading.{decimalDigits}
 use Rattle.amplitude.proofs.has_decimal_digits.Statement.{statement}
 use Rattle.amplitude.proofs.has_decimal_digits.Tie as tie
 

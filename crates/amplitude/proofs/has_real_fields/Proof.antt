@@ -5,7 +5,7 @@ use mathlib.Core.Path.{sym, _∙_}
 use native.Mathlib.Omega.{arith}
 use borrow.Author.Tests.{lt-ltb, le-ltb, le-leb, lt-leb, not-true, not-false}
 use Rattle.gregorian.specs.Gregorian.{firstYear, yearLength}
-use Rattle.amplitude_rules.specs.Amplitude.{realFields}
+use Rattle.amplitude_rules.specs.Reading.{realFields}
 use Rattle.amplitude.proofs.Reading.{year-length, mark-small}
 use borrow.Author.Needs.{needs}
 use Rattle.amplitude.proofs.has_real_fields.Statement.{statement}

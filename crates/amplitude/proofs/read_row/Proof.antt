@@ -30,10 +30,10 @@ length-fits-requires : tie.Need-length-fits-requires
 length-fits-requires c κs = search needs
 
 returns-3 : tie.Need-returns-3
-returns-3 c = all-fit (rowNumbers (c .before .before .before .before .before .before .before .before .args .d)) (c .before .before .before .before .before .before .before .before .args .seconds) (c .before .before .before .before .before .fields-from .result) (sym (c .before .before .before .before .before .before .before .has-decimal-digits .ensures) ∙ not-false _ (c .before .before .before .before .before .before .if1 .left)) (c .before .before .before .before .before .fields-from .ensures) (c .before .before .values_of .result) (sym (c .before .before .before .before .has-real-fields .ensures) ∙ not-false _ (c .before .before .before .if2 .left)) (c .before .before .values_of .ensures) (sym (c .before .length-fits .ensures) ∙ c .if3 .taken)
+returns-3 c = all-fit (rowNumbers (c .before .before .before .before .before .before .before .before .args .d)) (c .before .before .before .before .before .before .before .before .args .seconds) (c .before .before .before .before .before .fields-from .result) (sym (c .before .before .before .before .before .before .before .has-decimal-digits .ensures) ∙ not-false _ (c .before .before .before .before .before .before .if1 .left)) (c .before .before .before .before .before .fields-from .ensures) (c .before .before .values-of .result) (sym (c .before .before .before .before .has-real-fields .ensures) ∙ not-false _ (c .before .before .before .if2 .left)) (c .before .before .values-of .ensures) (sym (c .before .length-fits .ensures) ∙ c .if3 .taken)
 
 returns-4 : tie.Need-returns-4
-returns-4 c = no-length (rowNumbers (c .before .before .before .before .before .before .before .before .args .d)) (c .before .before .before .before .before .before .before .before .args .seconds) (c .before .before .before .before .before .fields-from .result) (sym (c .before .before .before .before .before .before .before .has-decimal-digits .ensures) ∙ not-false _ (c .before .before .before .before .before .before .if1 .left)) (c .before .before .before .before .before .fields-from .ensures) (c .before .before .values_of .result) (sym (c .before .before .before .before .has-real-fields .ensures) ∙ not-false _ (c .before .before .before .if2 .left)) (c .before .before .values_of .ensures) (sym (c .before .length-fits .ensures) ∙ c .if3 .left)
+returns-4 c = no-length (rowNumbers (c .before .before .before .before .before .before .before .before .args .d)) (c .before .before .before .before .before .before .before .before .args .seconds) (c .before .before .before .before .before .fields-from .result) (sym (c .before .before .before .before .before .before .before .has-decimal-digits .ensures) ∙ not-false _ (c .before .before .before .before .before .before .if1 .left)) (c .before .before .before .before .before .fields-from .ensures) (c .before .before .values-of .result) (sym (c .before .before .before .before .has-real-fields .ensures) ∙ not-false _ (c .before .before .before .if2 .left)) (c .before .before .values-of .ensures) (sym (c .before .length-fits .ensures) ∙ c .if3 .left)
 
 pub read-row-spec : {M : Type 1} → statement M
 read-row-spec =

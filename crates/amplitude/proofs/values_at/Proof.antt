@@ -1,7 +1,7 @@
 -- `amplitude::values_at` meets its contract.
 -- Assumes nothing.
 use mir.Facts.{toZ-ofZ}
-use Rattle.amplitude_rules.specs.Amplitude.{valuesAt}
+use Rattle.amplitude_rules.specs.Writing.{valuesAt}
 use borrow.Author.Needs.{needs}
 use Rattle.amplitude.proofs.values_at.Statement.{statement}
 use Rattle.amplitude.proofs.values_at.Tie as tie

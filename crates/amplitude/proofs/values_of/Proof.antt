@@ -1,7 +1,7 @@
 -- `amplitude::values_of` meets its contract.
 -- Assumes nothing.
 use native.Mathlib.Omega.{arith}
-use Rattle.amplitude_rules.specs.Amplitude.{valuesOf}
+use Rattle.amplitude_rules.specs.Reading.{valuesOf}
 use Rattle.amplitude.proofs.Reading.{sign-through, days-small, day-low, day-high, hour-high, minute-high}
 use borrow.Author.Needs.{needs}
 use Rattle.amplitude.proofs.values_of.Statement.{statement}

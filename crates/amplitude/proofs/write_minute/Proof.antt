@@ -6,10 +6,11 @@ use lib.IntN.{ℤ}
 use mir.Facts.{toZ-ofZ}
 use borrow.Author.Tests.{not-true, not-false}
 use Rattle.plan.specs.Plan.{legalPlan}
-use Rattle.amplitude_rules.specs.Amplitude.{legalUT1, legalValues, valuesAt}
+use Rattle.amplitude_rules.specs.Amplitude.{legalUT1, legalValues}
+use Rattle.amplitude_rules.specs.Writing.{valuesAt}
 use Rattle.amplitude_rules.specs.declared.Values.{Values}
-use Rattle.amplitude_rules.proofs.ReadBack.{sent-legal}
-use Rattle.amplitude_rules.proofs.Writing.{no-1, no-3, no-18, no-4, all-yes}
+use Rattle.amplitude_rules.proofs.Sent.{sent-legal}
+use Rattle.amplitude.proofs.Answers.{no-1, no-3, no-18, no-4, all-yes}
 use borrow.Author.Needs.{needs}
 use Rattle.amplitude.proofs.write_minute.Statement.{statement}
 use Rattle.amplitude.proofs.write_minute.Tie as tie
@@ -25,8 +26,8 @@ ut1 c = let s = c .before .before .before .before .before in
 legal-ut1 : (c : tie.Else3) → legalUT1 (c .before .before .before .before .before .before .args .sign) (c .before .before .before .before .before .before .args .tenths) ≡ true
 legal-ut1 c = sym (ut1 (c .before)) ∙ not-false _ (c .if3 .left)
 
-accepted : (c : tie.After-values-at) → let a = c .before .before .before .before .before .before .before .args in c .values-at .result ≡ valuesAt (a .plan) (a .minute) (a .sign) (a .tenths)
-accepted c = let s = c .before .before .before .before .before .before .before in
+values : (c : tie.After-values-at) → let a = c .before .before .before .before .before .before .before .args in c .values-at .result ≡ valuesAt (a .plan) (a .minute) (a .sign) (a .tenths)
+values c = let s = c .before .before .before .before .before .before .before in
     subst (λ (z : ℤ). c .values-at .result ≡ valuesAt (s .args .plan) (s .args .minute) z (s .args .tenths)) (toZ-ofZ (s .fits .sign)) (c .values-at .ensures)
 
 is-legal-requires : tie.Need-is-legal-requires
@@ -51,16 +52,16 @@ cast-needed : tie.Need-cast-needed
 cast-needed c = search needs
 
 returns-4 : tie.Need-returns-4
-returns-4 c = no-4 (c .before .before .before .before .before .before .before .before .before .args .plan) (c .before .before .before .before .before .before .before .before .before .args .minute) (c .before .before .before .before .before .before .before .before .before .args .sign) (c .before .before .before .before .before .before .before .before .before .args .tenths) (c .before .before .before .before .before .before .before .before .before .args .out .now) (legal (c .before .before .before .before .before .before)) (c .before .before .before .before .before .if2 .left) (legal-ut1 (c .before .before .before)) (c .before .before .values-at .result) (accepted (c .before .before)) (c .if4 .taken)
+returns-4 c = no-4 (c .before .before .before .before .before .before .before .before .before .args .plan) (c .before .before .before .before .before .before .before .before .before .args .minute) (c .before .before .before .before .before .before .before .before .before .args .sign) (c .before .before .before .before .before .before .before .before .before .args .tenths) (c .before .before .before .before .before .before .before .before .before .args .out .now) (legal (c .before .before .before .before .before .before)) (c .before .before .before .before .before .if2 .left) (legal-ut1 (c .before .before .before)) (c .before .before .values-at .result) (values (c .before .before)) (c .if4 .taken)
 
 put-requires : tie.Need-put-requires
-put-requires c κs = let s = c .before .before .before .before .before .before .before .before .before .before in (subst (λ (r : Values). legalValues r ≡ true) (sym (accepted (c .before .before .before))) (sent-legal (s .args .plan) (s .args .minute) (s .args .sign) (s .args .tenths) (c .before .before .before .before .before .before .if2 .left) (legal-ut1 (c .before .before .before .before))), c .before .if4 .left)
+put-requires c κs = let s = c .before .before .before .before .before .before .before .before .before .before in (subst (λ (r : Values). legalValues r ≡ true) (sym (values (c .before .before .before))) (sent-legal (s .args .plan) (s .args .minute) (s .args .sign) (s .args .tenths) (c .before .before .before .before .before .before .if2 .left) (legal-ut1 (c .before .before .before .before))), c .before .if4 .left)
 
 same-length : tie.Need-same-length
 same-length c = search needs
 
 returns-5 : tie.Need-returns-5
-returns-5 c = all-yes (c .before .before .before .before .before .before .before .before .before .before .before .before .before .args .plan) (c .before .before .before .before .before .before .before .before .before .before .before .before .before .args .minute) (c .before .before .before .before .before .before .before .before .before .before .before .before .before .args .sign) (c .before .before .before .before .before .before .before .before .before .before .before .before .before .args .tenths) (c .before .before .before .before .before .before .before .before .before .before .before .before .before .args .out .now) (legal (c .before .before .before .before .before .before .before .before .before .before)) (c .before .before .before .before .before .before .before .before .before .if2 .left) (legal-ut1 (c .before .before .before .before .before .before .before)) (c .before .before .before .before .before .before .values-at .result) (accepted (c .before .before .before .before .before .before)) (c .before .before .put .last .1 .0) (c .before .before .before .before .if4 .left) (c .before .before .put .ensures)
+returns-5 c = all-yes (c .before .before .before .before .before .before .before .before .before .before .before .before .before .args .plan) (c .before .before .before .before .before .before .before .before .before .before .before .before .before .args .minute) (c .before .before .before .before .before .before .before .before .before .before .before .before .before .args .sign) (c .before .before .before .before .before .before .before .before .before .before .before .before .before .args .tenths) (c .before .before .before .before .before .before .before .before .before .before .before .before .before .args .out .now) (legal (c .before .before .before .before .before .before .before .before .before .before)) (c .before .before .before .before .before .before .before .before .before .if2 .left) (legal-ut1 (c .before .before .before .before .before .before .before)) (c .before .before .before .before .before .before .values-at .result) (values (c .before .before .before .before .before .before)) (c .before .before .before .before .if4 .left) (c .before .before .put .last .1 .0) (c .before .before .put .ensures)
 
 pub write-minute-spec : {M : Type 1} → statement M
 write-minute-spec =
