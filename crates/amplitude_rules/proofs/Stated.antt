@@ -1,8 +1,8 @@
 -- Every statement of specs with its proof: where a proof is missing, this module is not proved.
 -- Assumes nothing.
-use Rattle.amplitude_rules.specs.Theorems.{ReadExactly, SymbolsApart, FieldsOfDate, SentReads, WarnedMonth, BothCodes, Table10, LeapMinutes, ReadOrder, ReadAccepted, ReadRefused, ReadAnswers, WriteOrder, WriteAccepted, WriteRefused, WriteAnswers, WriteDone, WriteUndone}
+use Rattle.amplitude_rules.specs.Theorems.{ReadExactly, SymbolsApart, FieldsOfDate, FlagSeconds, SentReads, WarnedMonth, BothCodes, Table10, LeapMinutes, ReadOrder, ReadAccepted, ReadRefused, ReadAnswers, WriteOrder, WriteAccepted, WriteRefused, WriteAnswers, WriteDone, WriteUndone}
 use Rattle.amplitude_rules.proofs.Exact.{read-exactly, symbols-apart}
-use Rattle.amplitude_rules.proofs.Dates.{fields-of-date}
+use Rattle.amplitude_rules.proofs.Dates.{fields-of-date, flag-seconds}
 use Rattle.amplitude_rules.proofs.Sent.{sent-reads, warned-month, both-codes}
 use Rattle.amplitude_rules.proofs.Examples.{table-10, leap-minutes}
 use Rattle.amplitude_rules.proofs.Refusals.{read-order, read-accepted, read-refused, read-answers, write-order, write-accepted, write-refused, write-answers, write-done, write-undone}
@@ -15,6 +15,9 @@ symbols-apart′ = symbols-apart
 
 fields-of-date′ : FieldsOfDate
 fields-of-date′ = fields-of-date
+
+flag-seconds′ : FlagSeconds
+flag-seconds′ = flag-seconds
 
 sent-reads′ : SentReads
 sent-reads′ = sent-reads

@@ -1,6 +1,6 @@
 -- What is proved of the amplitude code (document 02, 5, "The amplitude code as well").
 -- Assumes nothing.
-use Prim.Native.Nat.{ℕ, _+_, _-_, _<_}
+use Prim.Native.Nat.{ℕ, _+_, _-_, _/_, _%_, _<_}
 use mathlib.Core.Bool.{true}
 use mathlib.Core.List.{List, [], _∷_, _++_}
 use mathlib.Core.Logic.{_↔_, _⊎_, _≢_}
@@ -21,7 +21,7 @@ use Rattle.format.specs.Next.{OneOutcome, readOne}
 use Rattle.sequence.specs.Demand.{SpaceEnough}
 use Rattle.sequence.specs.Bench.{rows10And37}
 use Rattle.amplitude_rules.specs.declared.Values.{Values}
-use Rattle.amplitude_rules.specs.Amplitude.{legalUT1, legalValues, fieldsOf, symbols}
+use Rattle.amplitude_rules.specs.Amplitude.{legalUT1, leapMark, legalValues, fieldsOf, symbols}
 use Rattle.amplitude_rules.specs.Reading.{valuesIn, readQuestions, refused, accepted, readAmplitude}
 use Rattle.amplitude_rules.specs.Writing.{warningAt, valuesAt, writeQuestions, writeAmplitude, bufferWritten}
 
@@ -44,6 +44,12 @@ pub record DateFields (r : Values) : Type 0 where
 
 abbrev pub FieldsOfDate : Type 0
 FieldsOfDate = (r : Values) → r .minute < minuteCount → DateFields r
+
+-- the last four seconds of the layout: the leap-year mark at 55, the warning at 56, dst_on[1] at 57 and dst_on[0] at 58
+abbrev pub FlagSeconds : Type 0
+FlagSeconds =
+    (r : Values) → legalValues r ≡ true
+    → take 4 (drop 55 (symbols r)) ≡ leapMark (dateAt (r .minute) .year) ∷ r .warning ∷ r .daylight / 2 ∷ r .daylight % 2 ∷ []
 
 -- ---- a plan's minute
 

@@ -1,7 +1,6 @@
 -- Every statement of specs with its proof: where a proof is missing, this module is not proved.
 -- Assumes nothing.
 use Rattle.sequence.specs.Parts.{ReadInParts, StateAtEnd}
-use Rattle.sequence.specs.Before.{SameAsBefore}
 use Rattle.sequence.specs.Demand.{Demand3, InversionsAlone, NothingInverted, LengthsKept}
 use Rattle.sequence.specs.RoundTrip.{ReadsBack, LengthsSum, WrittenReadsBack, SingleReadsBack, WrittenBitInverted}
 use Rattle.sequence.specs.Bench.{BenchTable}
@@ -12,7 +11,6 @@ use Rattle.sequence.proofs.Refusals.{write-order, write-accepted, write
 use Rattle.sequence.proofs.Places.{inversions-alone, nothing-inverted, lengths-kept}
 use Rattle.sequence.proofs.ReadBack.{reads-back, lengths-sum, written-reads-back, single-reads-back, written-bit-inverted}
 use Rattle.sequence.proofs.Bench.{bench-table}
-use Rattle.sequence.proofs.Before.{same-as-before}
 use Rattle.sequence.proofs.Demand.{demand-3}
 use Rattle.sequence.proofs.Unread.{unread-bits-change-nothing, unread-bits-of-one-frame}
 use Rattle.sequence.proofs.ReadRefusals.{order-after, recording-read, recording-only, recording-accepted, recording-refused, recording-answers}
@@ -99,9 +97,6 @@ recording-answers′ = recording-answers
 
 recording-kept′ : RecordingKept
 recording-kept′ = recording-kept
-
-same-as-before′ : SameAsBefore
-same-as-before′ = same-as-before
 
 false-minute′ : FalseMinute
 false-minute′ = false-minute

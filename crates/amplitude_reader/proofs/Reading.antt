@@ -1,0 +1,145 @@
+-- Laws of reading: real fields, their values, and the two questions.
+-- Assumes nothing.
+use Prim.Native.Nat.{ℕ, _+_, _-_, _*_, _≤_, _<_}
+use mathlib.Core.Bool.{Bool, true, false, _&&_}
+use mathlib.Core.List.{List}
+use mathlib.Core.Path.{_≡_, refl, sym, ap, _∙_}
+use native.Mathlib.Omega.{arith}
+use lib.Dec.{leb, eqb}
+use lib.IntN.{ℤ, pos, negsuc}
+use lib.ListN.{length, take, drop, getD}
+use mir.Syntax.{w32}
+use mir.Val.{ofZ, toZ}
+use borrow.Author.Tests.{leb-true}
+use Rattle.bits.specs.Bits.{pick, all}
+use Rattle.bits.proofs.Tests.{head-true, tail-true}
+use Rattle.questions.specs.Questions.{asked}
+use Rattle.symbols.specs.Symbols.{fits}
+use Rattle.gregorian.specs.Gregorian.{firstYear, yearCount, leapYear, monthLengths, monthsOf, yearLength, yearLengths, before}
+use Rattle.gregorian.proofs.Years.{before-closed}
+use Rattle.calendar.specs.Calendar.{lastOfMonth}
+use Rattle.amplitude_rules.specs.Amplitude.{table1, leapMark, lengthFits}
+use Rattle.amplitude_rules.specs.Reading.{isMark, fieldsFrom, signOf, layoutFits, numbersIn, valuesOf, decimalDigits, realFields, fieldsFit, readQuestions, accepted, refused, readAmplitude}
+use Rattle.amplitude_rules.specs.declared.Fields.{Fields}
+use Rattle.amplitude_rules.specs.declared.Values.{Values}
+use Rattle.amplitude_rules.proofs.Facts.{Real, real}
+use Rattle.amplitude_row.specs.Row.{lowNumbers}
+use Rattle.amplitude_row.proofs.Rows.{low-is}
+use Rattle.amplitude_reader.specs.Answer.{fieldsAnswer}
+
+-- a year's length by its leap-year mark, which is 0 or 1
+pub year-length : (y : ℕ) → yearLength y ≡ 365 + leapMark y
+unfolding yearLength monthsOf leapMark before monthLengths
+year-length y = go (leapYear y)
+  where
+    go : (b : Bool) → before (monthLengths b) 12 ≡ 365 + pick b 1 0
+    go true = refl
+    go false = refl
+
+pub mark-small : (y : ℕ) → leapMark y ≤ 1
+unfolding leapMark
+mark-small y = go (leapYear y)
+  where
+    go : (b : Bool) → pick b 1 0 ≤ 1
+    go true = omega arith
+    go false = omega arith
+
+-- a sign as a signed number of 32 bits
+pub sign-through : (b : ℕ) → toZ w32 (ofZ w32 (signOf b)) ≡ signOf b
+unfolding signOf
+sign-through b = go (eqb b 0b101)
+  where
+    go : (t : Bool) → toZ w32 (ofZ w32 (pick t (pos 1) (negsuc 0))) ≡ pick t (pos 1) (negsuc 0)
+    go true = refl
+    go false = refl
+
+-- the days before a year are few
+pub days-small : (y : ℕ) → y < yearCount → before yearLengths y < 40_000
+days-small y h = rw (before-closed y (omega arith)) (omega arith)
+
+-- the bounds of real fields, for sums
+module _ (x : Fields) (hy : x .year < yearCount) (h : realFields x ≡ true) where
+  pub day-low : 1 ≤ x .day
+  day-low = real x h .low
+
+  pub day-high : x .day ≤ 366
+  day-high = omega (arith, real x h .high, year-length (firstYear + x .year), mark-small (firstYear + x .year))
+
+  pub hour-high : x .hour < 24
+  hour-high = real x h .hour
+
+  pub minute-high : x .minute < 60
+  minute-high = real x h .minute
+
+-- decimal digits show a year of the range
+pub year-small : (v : List ℕ) → decimalDigits v ≡ true → fieldsFrom v .year < yearCount
+unfolding decimalDigits fieldsFrom
+year-small v h =
+    let t = leb (getD v 9 0) 9 in
+    let u = leb (getD v 10 0) 9 in
+    let others = leb (getD v 1 0) 9 && leb (getD v 3 0) 9 && leb (getD v 5 0) 9 && leb (getD v 6 0) 9 && leb (getD v 8 0) 9 in
+    omega (arith, leb-true (getD v 10 0) 9 (tail-true (others && t) u h), leb-true (getD v 9 0) 9 (tail-true others t (head-true (others && t) u h)))
+
+-- question 18, answered step by step
+module _ (v : List ℕ) (n : ℕ) where
+  pub not-decimal : decimalDigits v ≡ false → refused 18 ≡ fieldsAnswer v n
+  unfolding fieldsAnswer
+  not-decimal h = rw h
+
+  module _ (x : Fields) (d : decimalDigits v ≡ true) (e : x ≡ fieldsFrom v) where
+    real-is : (b : Bool) → realFields x ≡ b → realFields (fieldsFrom v) ≡ b
+    real-is b h = ap realFields (sym e) ∙ h
+
+    pub no-fields : realFields x ≡ false → refused 18 ≡ fieldsAnswer v n
+    unfolding fieldsAnswer
+    no-fields h = rw (d, real-is false h)
+
+    module _ (r : Values) (h : realFields x ≡ true) (t : r ≡ valuesOf x n) where
+      values-is : r ≡ valuesOf (fieldsFrom v) n
+      values-is = t ∙ ap (λ (y : Fields). valuesOf y n) e
+
+      fits-is : (b : Bool) → lengthFits (lastOfMonth (r .minute)) (r .warning) (r .seconds) ≡ b
+          → lengthFits (lastOfMonth (valuesOf (fieldsFrom v) n .minute)) (valuesOf (fieldsFrom v) n .warning) n ≡ b
+      unfolding valuesOf
+      fits-is b k = ap (λ (q : Values). lengthFits (lastOfMonth (q .minute)) (q .warning) (q .seconds)) (sym values-is) ∙ k
+
+      pub no-length : lengthFits (lastOfMonth (r .minute)) (r .warning) (r .seconds) ≡ false → refused 18 ≡ fieldsAnswer v n
+      unfolding fieldsAnswer
+      no-length k = rw (d, real-is true h, fits-is false k)
+
+      pub all-fit : lengthFits (lastOfMonth (r .minute)) (r .warning) (r .seconds) ≡ true → accepted r ≡ fieldsAnswer v n
+      unfolding fieldsAnswer
+      all-fit k = rw (d, real-is true h, fits-is true k) (ap accepted values-is)
+
+-- question 17
+module _ (s : List ℕ) where
+  pub no-layout : layoutFits s ≡ false → refused 17 ≡ readAmplitude s
+  unfolding readAmplitude readQuestions asked
+  no-layout h = rw h
+
+  module _ (h : layoutFits s ≡ true) where
+    abbrev long : Bool
+    long = leb 59 (length s)
+
+    abbrev short : Bool
+    short = leb (length s) 61
+
+    abbrev row : Bool
+    row = fits table1 (take 59 s)
+
+    three-true : (long && short && row) ≡ true
+    unfolding layoutFits
+    three-true = head-true (long && short && row) (all isMark (drop 59 s)) h
+
+    pub long-enough : 59 ≤ length s
+    long-enough = leb-true 59 (length s) (head-true long short (head-true (long && short) row three-true))
+
+    pub short-enough : length s ≤ 61
+    short-enough = leb-true (length s) 61 (tail-true long short (head-true (long && short) row three-true))
+
+    row-fits : row ≡ true
+    row-fits = tail-true (long && short) row three-true
+
+    pub by-fields : (v : List ℕ) → v ≡ lowNumbers (take 59 s) → fieldsAnswer v (length s) ≡ readAmplitude s
+    unfolding readAmplitude readQuestions asked fieldsFit fieldsAnswer numbersIn
+    by-fields v e = rw (h, e ∙ low-is (take 59 s) row-fits)

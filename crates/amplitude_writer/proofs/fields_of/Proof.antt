@@ -1,0 +1,46 @@
+-- `amplitude_writer::fields_of` meets its contract.
+-- Assumes nothing.
+use Prim.Native.Nat.{_/_}
+use mathlib.Core.Path.{_≡_, sym, ap, subst, _∙_}
+use native.Mathlib.Omega.{arith}
+use Rattle.gregorian.proofs.Months.{placed, year-low, year-rest-is, year-index}
+use Rattle.amplitude_rules.proofs.Facts.{Legal, legal}
+use Rattle.amplitude_rules.specs.Amplitude.{legalSign, fieldsOf}
+use Rattle.amplitude_writer.proofs.Written.{legal-through}
+use borrow.Author.Needs.{needs}
+use Rattle.amplitude_writer.proofs.fields_of.Statement.{statement}
+use Rattle.amplitude_writer.proofs.fields_of.Tie as tie
+
+year-index-requires : tie.Need-year-index-requires
+year-index-requires c κs = omega (arith, legal (c .before .args .r) (c .before .pre) .minute)
+
+days-before-requires : tie.Need-days-before-requires
+days-before-requires c κs = omega (arith, c .before .before .year-index .ensures, year-index (c .before .before .before .before .args .r .minute / 1440) (placed (c .before .before .before .before .args .r .minute / 1440) (omega (arith, legal (c .before .before .before .before .args .r) (c .before .before .before .before .pre) .minute))))
+
+sub-t8 : tie.Need-sub-t8
+sub-t8 c = rw (c .days-before .ensures, c .before .before .before .year-index .ensures) (year-low (c .before .before .before .before .before .args .r .minute / 1440) (placed (c .before .before .before .before .before .args .r .minute / 1440) (omega (arith, legal (c .before .before .before .before .before .args .r) (c .before .before .before .before .before .pre) .minute))))
+
+add-t9 : tie.Need-add-t9
+add-t9 c = search needs
+
+sign-bits-requires : tie.Need-sign-bits-requires
+sign-bits-requires c κs = rw (legal-through (c .before .before .before .before .before .before .args .r .sign) (legal (c .before .before .before .before .before .before .args .r) (c .before .before .before .before .before .before .pre) .sign)) (legal (c .before .before .before .before .before .before .args .r) (c .before .before .before .before .before .before .pre) .sign)
+
+leap-mark-requires : tie.Need-leap-mark-requires
+leap-mark-requires c κs = search needs
+
+returns : tie.Need-returns
+unfolding fieldsOf
+returns c = rw (c .before .before .before .days-before .ensures, c .before .sign-bits .ensures, c .leap-mark .ensures, c .before .before .before .before .before .before .year-index .ensures, year-rest-is (c .before .before .before .before .before .before .before .before .args .r .minute / 1440) (placed (c .before .before .before .before .before .before .before .before .args .r .minute / 1440) (omega (arith, legal (c .before .before .before .before .before .before .before .before .args .r) (c .before .before .before .before .before .before .before .before .pre) .minute))), legal-through (c .before .before .before .before .before .before .before .before .args .r .sign) (legal (c .before .before .before .before .before .before .before .before .args .r) (c .before .before .before .before .before .before .before .before .pre) .sign))
+
+pub fields-of-spec : {M : Type 1} → statement M
+fields-of-spec =
+    tie.close
+    (tie.spec
+    year-index-requires
+    days-before-requires
+    sub-t8
+    add-t9
+    sign-bits-requires
+    leap-mark-requires
+    returns)

@@ -1,0 +1,203 @@
+// The amplitude code, written one minute a call by a plan.
+ghost use mathlib.Core.Path.{_≡_};
+ghost use mathlib.Core.Bool.{true};
+ghost use mathlib.Core.List.{_++_};
+ghost use Prim.Native.Nat.{_-_, _≤_, _<_};
+ghost use lib.ListN.{length, drop, replicate};
+ghost use Rattle.calendar.specs.Calendar.{minuteCount};
+ghost use Rattle.codewords.specs.CodeWords.{daylightNumber};
+ghost use Rattle.plan.specs.Plan.{daylightAt};
+ghost use Rattle.amplitude_rules.specs.Amplitude.{digits, signBits, legalSign, legalUT1, legalValues, fieldsOf, symbols};
+ghost use Rattle.amplitude_rules.specs.Writing.{warningAt, valuesAt, writeAmplitude, bufferWritten};
+ghost use Rattle.amplitude_row.specs.Row.{rowNumbers};
+ghost use Rattle.amplitude_writer.specs.Answer.{writeRefusalNumber, writeNumbers};
+use amplitude_row::Row;
+use amplitude_rules::Fields;
+use amplitude_rules::Values;
+use calendar::Date;
+use plan::Plan;
+
+// The question that was answered no: 1, 3, 18 and 4.
+pub enum WriteRefusal {
+    IllegalPlan,
+    Minute,
+    Ut1,
+    Space,
+}
+
+// The number of symbols, or the refusal.
+pub enum WriteAnswer {
+    Written(usize),
+    Refused(WriteRefusal),
+}
+
+impl WriteRefusal {
+    // The number of the question.
+    pub fn number(self) -> u32
+        ensures { λ r. ⌜ r ≡ writeRefusalNumber self ⌝ }
+    {
+        match self {
+            WriteRefusal::IllegalPlan => 1,
+            WriteRefusal::Minute => 3,
+            WriteRefusal::Ut1 => 18,
+            WriteRefusal::Space => 4,
+        }
+    }
+}
+
+// Question 18 of UT1: its sign and tenths.
+fn is_ut1(sign: i32, tenths: u32) -> bool
+    ensures { λ r. ⌜ r ≡ legalUT1 sign tenths ⌝ }
+{
+    if 9 < tenths {
+        return false;
+    }
+    if sign == 1 {
+        return true;
+    }
+    if sign == -1 {
+        return true;
+    }
+    false
+}
+
+// The bits of a UT1 sign, which is legal.
+fn sign_bits(sign: i32) -> u32
+    requires { ⌜ legalSign sign ≡ true ⌝ }
+    ensures { λ r. ⌜ r ≡ signBits sign ⌝ }
+{
+    if sign == 1 { 0b101 } else { 0b010 }
+}
+
+// The leap warning of a minute.
+fn warning(plan: Plan, minute: u32) -> u32
+    ensures { λ r. ⌜ r ≡ warningAt plan minute ⌝ }
+{
+    if codewords::leap_number(plan.leap(minute)) == 0 {
+        0
+    } else {
+        1
+    }
+}
+
+// The daylight state of a minute, as a number.
+fn daylight(plan: Plan, minute: u32) -> u32
+    requires { ⌜ minute < minuteCount ⌝ }
+    ensures { λ r. ⌜ r ≡ daylightNumber (daylightAt plan minute) ⌝ }
+{
+    let state = plan.state(minute);
+    let daylight = state.daylight;
+    codewords::daylight_number(daylight) as u32
+}
+
+// What a plan gives a minute to values_of.
+fn values_at(plan: Plan, minute: u32, sign: i32, tenths: u32) -> Values
+    requires { ⌜ minute < minuteCount ⌝ }
+    ensures { λ r. ⌜ r ≡ valuesAt plan minute sign tenths ⌝ }
+{
+    Values {
+        minute,
+        sign,
+        tenths,
+        warning: warning(plan, minute),
+        daylight: daylight(plan, minute),
+        seconds: plan.length(minute),
+    }
+}
+
+// The numbers that values_of it.
+fn fields_of(r: Values) -> Fields
+    requires { ⌜ legalValues r ≡ true ⌝ }
+    ensures { λ s. ⌜ s ≡ fieldsOf r ⌝ }
+{
+    let day = r.minute / 1440;
+    let years = gregorian::year_index(day);
+    Fields {
+        minute: r.minute % 60,
+        hour: r.minute % 1440 / 60,
+        day: day - gregorian::days_before(years) + 1,
+        sign: sign_bits(r.sign),
+        tenths: r.tenths,
+        year: years,
+        leap: amplitude_row::leap_mark(years),
+        warning: r.warning,
+        daylight: r.daylight,
+    }
+}
+
+fn narrow(x: u32) -> u8
+    requires { ⌜ x < 256 ⌝ }
+    ensures { λ r. ⌜ r ≡ x ⌝ }
+{
+    x as u8
+}
+
+// The digits of what a minute fieldsOf.
+fn row_of(x: Fields) -> Row
+    requires { ⌜ (x .minute < 60) × (x .hour < 24) × (x .day < 400) × (x .sign < 8) × (x .tenths ≤ 9) × (x .year < 100) × (x .leap < 2) × (x .warning < 2) × (x .daylight < 4) ⌝ }
+    ensures { λ r. ⌜ rowNumbers r ≡ digits x ⌝ }
+{
+    Row {
+        minute_tens: narrow(x.minute / 10),
+        minute_units: narrow(x.minute % 10),
+        hour_tens: narrow(x.hour / 10),
+        hour_units: narrow(x.hour % 10),
+        day_hundreds: narrow(x.day / 100),
+        day_tens: narrow(x.day / 10 % 10),
+        day_units: narrow(x.day % 10),
+        sign: narrow(x.sign),
+        tenths: narrow(x.tenths),
+        year_tens: narrow(x.year / 10),
+        year_units: narrow(x.year % 10),
+        leap: narrow(x.leap),
+        warning: narrow(x.warning),
+        daylight: narrow(x.daylight),
+    }
+}
+
+// Writes the symbols of a row, and markers after second 58.
+fn put_row(row: [u8; 59], seconds: usize, out: &mut [u8])
+    requires { ⌜ (59 ≤ seconds) × (seconds ≤ 61) × (seconds ≤ length (now out)) ⌝ }
+    ensures { λ r. ⌜ now (out .exit) ≡ row ++ replicate (seconds - 59) 2 ++ drop seconds (now (out .entry)) ⌝ }
+{
+    bytes::copy(&row, out);
+    if seconds < 60 {
+        return;
+    }
+    out[59] = 2;
+    if seconds < 61 {
+        return;
+    }
+    out[60] = 2;
+}
+
+// Writes the symbols of a minute.
+fn put(r: Values, out: &mut [u8])
+    requires { ⌜ (legalValues r ≡ true) × (r .seconds ≤ length (now out)) ⌝ }
+    ensures { λ u. ⌜ now (out .exit) ≡ symbols r ++ drop (r .seconds) (now (out .entry)) ⌝ }
+{
+    let row = amplitude_row::symbols(row_of(fields_of(r)));
+    put_row(row, r.seconds as usize, out);
+}
+
+// Writes one minute; a refused one leaves the buffer as it was.
+pub fn write_minute(plan: Plan, minute: u32, sign: i32, tenths: u32, out: &mut [u8]) -> WriteAnswer
+    ensures { λ r. ⌜ (writeNumbers r ≡ writeAmplitude plan minute sign tenths (length (now (out .entry)))) × (now (out .exit) ≡ bufferWritten plan minute sign tenths (now (out .entry))) ⌝ }
+{
+    if !plan.is_legal() {
+        return WriteAnswer::Refused(WriteRefusal::IllegalPlan);
+    }
+    if Date::MINUTES <= minute {
+        return WriteAnswer::Refused(WriteRefusal::Minute);
+    }
+    if !is_ut1(sign, tenths) {
+        return WriteAnswer::Refused(WriteRefusal::Ut1);
+    }
+    let values = values_at(plan, minute, sign, tenths);
+    let needed = values.seconds as usize;
+    if out.len() < needed {
+        return WriteAnswer::Refused(WriteRefusal::Space);
+    }
+    put(values, out);
+    WriteAnswer::Written(needed)
+}
