@@ -19,7 +19,7 @@ use Rattle.gregorian.proofs.Years.{length-years, days-of-years}
 use Rattle.calendar.specs.Calendar.{minuteCount, lastOfMonth}
 use Rattle.plan.specs.Plan.{minFrame, maxFrame}
 use Rattle.questions.specs.Questions.{asked}
-use Rattle.questions.proofs.Laws.{Verdict, all-yes, first-no, verdict}
+use Rattle.questions.proofs.Laws.{Verdict, all-yes, first-no, verdict, answer, yes-at}
 use Rattle.amplitude_rules.specs.declared.Fields.{Fields}
 use Rattle.amplitude_rules.specs.declared.Values.{Values}
 use Rattle.amplitude_rules.specs.Amplitude.{table1, digits, lengthFits, legalValues, fieldsOf, symbols}
@@ -162,7 +162,7 @@ pub not-refused : (n : ℕ) (q : Values) → refused n ≡ accepted q → ⊥
 not-refused n q h = let z : _≡_ {A = ℕ} 0 1 = cc in omega arith
 
 pub read-exactly : ReadExactly
-unfolding readAmplitude readQuestions
+unfolding readAmplitude readQuestions answer
 read-exactly s q = (
   (λ h. go h (verdict refused (accepted (valuesIn s)) (readQuestions s))),
   (λ h. ap readAmplitude (h .1) ∙ read-values q (legal q (h .0))),
@@ -171,8 +171,8 @@ read-exactly s q = (
     go : readAmplitude s ≡ accepted q → Verdict refused (accepted (valuesIn s)) (readQuestions s) → (legalValues q ≡ true) × (s ≡ symbols q)
     go h (first-no n a e) = absurd (not-refused n q (sym e ∙ h))
     go h (all-yes a e) =
-        let layout = a .0 in
-        let fields = a .1 .0 in
+        let layout : layoutFits s ≡ true = yes-at (readQuestions s) a 17 in
+        let fields : fieldsFit s ≡ true = yes-at (readQuestions s) a 18 in
         rw (← values-of-answer (valuesIn s) q (sym e ∙ h)) (legal-values (r s layout fields) (legal-back s layout fields), sym (symbols-back s layout fields))
 
 pub symbols-apart : SymbolsApart

@@ -2,7 +2,6 @@
 -- Assumes nothing.
 use Prim.Native.Nat.{ℕ, _+_, _≤_, _<_}
 use mathlib.Core.Bool.{Bool, true, false, _&&_, _||_}
-use mathlib.Core.Logic.{_⊎_, inl, inr}
 use mathlib.Core.Path.{_≡_, refl, sym, ap}
 use native.Mathlib.Omega.{arith}
 use lib.Dec.{leb, ltb, eqb}
@@ -12,6 +11,7 @@ use Rattle.bits.specs.Bits.{pick}
 use Rattle.bits.proofs.Tests.{both-true}
 use Rattle.gregorian.specs.Gregorian.{firstYear, leapYear, yearLength}
 use Rattle.calendar.specs.Calendar.{minuteCount, lastOfMonth}
+use Rattle.plan.specs.Plan.{minFrame, usualFrame, maxFrame}
 use Rattle.amplitude_rules.specs.declared.Fields.{Fields}
 use Rattle.amplitude_rules.specs.declared.Values.{Values}
 use Rattle.amplitude_rules.specs.Amplitude.{signBits, legalSign, legalUT1, leapMark, lengthFits, legalValues}
@@ -50,21 +50,23 @@ legal-values r l = simp (lt-ltb _ _ (l .minute), l .sign, le-leb _ _ (l .tenths)
 -- ---- the length
 
 -- a length that fits is 59, 60 or 61
-pub lengths : (last : Bool) (warning n : ℕ) → lengthFits last warning n ≡ true → (59 ≤ n) × (n ≤ 61)
-unfolding lengthFits
-lengths last warning n h = go (last && eqb warning 1) h
-  where
-    or : (a b : Bool) → (a || b) ≡ true → (a ≡ true) ⊎ (b ≡ true)
-    or true b h = inl refl
-    or false b h = inr h
+module _ (last : Bool) (warning n : ℕ) where
+  abbrev InRange : Type 0
+  InRange = (59 ≤ n) × (n ≤ 61)
 
-    two : (eqb n 59 ≡ true) ⊎ (eqb n 61 ≡ true) → (59 ≤ n) × (n ≤ 61)
-    two (inl e) = omega (arith, eqb-true n 59 e)
-    two (inr e) = omega (arith, eqb-true n 61 e)
+  one-of-three : (t a b c : Bool) → (a ≡ true → InRange) → (b ≡ true → InRange) → (c ≡ true → InRange) → pick t (a || b) c ≡ true → InRange
+  one-of-three true true b c x y z h = x refl
+  one-of-three true false b c x y z h = y h
+  one-of-three false a b c x y z h = z h
 
-    go : (t : Bool) → pick t (eqb n 59 || eqb n 61) (eqb n 60) ≡ true → (59 ≤ n) × (n ≤ 61)
-    go true h = two (or (eqb n 59) (eqb n 61) h)
-    go false h = omega (arith, eqb-true n 60 h)
+  pub lengths : lengthFits last warning n ≡ true → InRange
+  unfolding lengthFits
+  lengths h =
+      one-of-three (last && eqb warning 1) (eqb n minFrame) (eqb n maxFrame) (eqb n usualFrame)
+      (λ e. omega (arith, eqb-true n minFrame e))
+      (λ e. omega (arith, eqb-true n maxFrame e))
+      (λ e. omega (arith, eqb-true n usualFrame e))
+      h
 
 -- ---- the UT1 sign
 
@@ -83,13 +85,13 @@ unfolding signBits
 sign-small (pos n) = omega arith
 sign-small (negsuc n) = omega arith
 
+picked-below : {x y n : ℕ} (b : Bool) → x < n → y < n → pick b x y < n
+picked-below true h k = h
+picked-below false h k = k
+
 pub mark-small : (y : ℕ) → leapMark y < 2
 unfolding leapMark
-mark-small y = go (leapYear y)
-  where
-    go : (b : Bool) → pick b 1 0 < 2
-    go true = omega arith
-    go false = omega arith
+mark-small y = picked-below (leapYear y) (omega arith) (omega arith)
 
 pub sign-forth : (b : ℕ) → (eqb b 0b101 || eqb b 0b010) ≡ true → (signBits (signOf b) ≡ b) × (legalSign (signOf b) ≡ true)
 unfolding signBits signOf legalSign
