@@ -1,10 +1,10 @@
 -- Every statement of specs with its proof: where a proof is missing, this module is not proved.
 -- Assumes nothing.
-use Rattle.amplitude_rules.specs.Theorems.{ReadExactly, SymbolsApart, FieldsOfDate, FlagSeconds, SentReads, WarnedMonth, BothCodes, Table10, LeapMinutes, ReadOrder, ReadAccepted, ReadRefused, ReadAnswers, WriteOrder, WriteAccepted, WriteRefused, WriteAnswers, WriteDone, WriteUndone}
+use Rattle.amplitude_rules.specs.Theorems.{ReadExactly, SymbolsApart, FieldsOfDate, FlagSeconds, SentReads, WarnedMonth, BothCodes, Table10, OneSymbolMistaken, LeapMinutes, ReadOrder, ReadAccepted, ReadRefused, ReadAnswers, WriteOrder, WriteAccepted, WriteRefused, WriteAnswers, WriteDone, WriteUndone}
 use Rattle.amplitude_rules.proofs.Exact.{read-exactly, symbols-apart}
 use Rattle.amplitude_rules.proofs.Dates.{fields-of-date, flag-seconds}
 use Rattle.amplitude_rules.proofs.Sent.{sent-reads, warned-month, both-codes}
-use Rattle.amplitude_rules.proofs.Examples.{table-10, leap-minutes}
+use Rattle.amplitude_rules.proofs.Examples.{table-10, one-symbol-mistaken, leap-minutes}
 use Rattle.amplitude_rules.proofs.Refusals.{read-order, read-accepted, read-refused, read-answers, write-order, write-accepted, write-refused, write-answers, write-done, write-undone}
 
 read-exactly′ : ReadExactly
@@ -30,6 +30,9 @@ both-codes′ = both-codes
 
 table-10′ : Table10
 table-10′ = table-10
+
+one-symbol-mistaken′ : OneSymbolMistaken
+one-symbol-mistaken′ = one-symbol-mistaken
 
 leap-minutes′ : LeapMinutes
 leap-minutes′ = leap-minutes

@@ -6,7 +6,7 @@ use mathlib.Core.List.{List, [], _∷_, _++_}
 use mathlib.Core.Logic.{_↔_, _⊎_, _≢_}
 use mathlib.Core.Path.{_≡_}
 use lib.IntN.{ℤ, pos, negsuc}
-use lib.ListN.{length, take, drop}
+use lib.ListN.{length, take, drop, set}
 use Rattle.bits.specs.Numbers.{found, refused as refusedWriting}
 use Rattle.questions.specs.Questions.{AllYes, FirstNo, numbersOf, oneOf}
 use Rattle.gregorian.specs.Gregorian.{firstYear, monthsOf, before}
@@ -94,6 +94,12 @@ Table10 =
     ∷ 0 ∷ 1 ∷ 1 ∷ 0 ∷ 0 ∷ 0 ∷ 1 ∷ 0 ∷ 1 ∷ 2
     ∷ 0 ∷ 1 ∷ 0 ∷ 0 ∷ 0 ∷ 0 ∷ 0 ∷ 0 ∷ 1 ∷ 2
     ∷ 0 ∷ 0 ∷ 1 ∷ 0 ∷ 0 ∷ 1 ∷ 0 ∷ 1 ∷ 1 ∷ 2 ∷ []
+
+-- the code has no check bits: with second 8 wrong, these symbols are those of 17:31
+abbrev pub OneSymbolMistaken : Type 0
+OneSymbolMistaken =
+    set (symbols (valuesAt (rows10And37 0 (pos 0) 0) 6_578_970 (pos 1) 4)) 8 1
+    ≡ symbols (valuesAt (rows10And37 0 (pos 0) 0) 6_578_971 (pos 1) 4)
 
 -- seconds 0 to 58 of 2012-06-30 23:59 with the warning, UT1 minus 0.6 s
 abbrev pub lastOfJune : List ℕ

@@ -39,6 +39,7 @@ filled-reads (high n ∷ ps) (v ∷ vs) h =
       part-fits n w rest l (binary-bits n v) (fits ps (drop n (w ++ rest))) (rw (drop-at w rest n l) (r .0)),
       rw (take-at w rest n l, drop-at w rest n l, high-number n v (h .0), r .1),
     )
+
 -- ---- the numbers of a row
 
 -- the head of a list that has one

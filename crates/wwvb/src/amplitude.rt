@@ -7,11 +7,11 @@ ghost use Rattle.amplitude_rules.specs.Reading.{readAmplitude};
 ghost use Rattle.amplitude_rules.specs.Writing.{writeAmplitude, bufferWritten};
 ghost use Rattle.wwvb.specs.Replies.{planOf, replyNumbers};
 ghost use Rattle.wwvb.specs.Amplitude.{symbolsReply, acceptedReply, refusedReply, amplitudeReply};
+use crate::WriteReply;
 use amplitude_reader::ReadAnswer;
 use amplitude_rules::Values;
 use amplitude_writer::WriteAnswer;
 use calendar::Date;
-use crate::WriteReply;
 use plan::Plan;
 
 // The refusal or 0, the date, UT1, leap warning, daylight state and length; refused, every other field is 0.
