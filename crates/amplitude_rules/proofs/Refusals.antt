@@ -21,8 +21,8 @@ use Rattle.plan.specs.declared.Plan.{Plan}
 use Rattle.amplitude_rules.specs.declared.Values.{Values}
 use Rattle.amplitude_rules.specs.Amplitude.{legalUT1, symbols}
 use Rattle.amplitude_rules.specs.Reading.{valuesIn, readQuestions, refused, accepted, readAmplitude}
-use Rattle.amplitude_rules.specs.Writing.{valuesAt, writeQuestions, writeAmplitude, bufferWritten}
-use Rattle.amplitude_rules.specs.Theorems.{ReadOrder, ReadAccepted, ReadRefused, ReadAnswers, WriteOrder, WriteAccepted, WriteRefused, WriteAnswers, Done, WriteDone, WriteUndone}
+use Rattle.amplitude_rules.specs.Writing.{valuesAt, writeQuestions, writeAmplitude, symbolsWritten}
+use Rattle.amplitude_rules.specs.Theorems.{AmplitudeReadOrder, AmplitudeReadAccepted, AmplitudeReadRefused, AmplitudeReadAnswers, AmplitudeWriteOrder, AmplitudeWriteAccepted, AmplitudeWriteRefused, AmplitudeWriteAnswers, Done, AmplitudeWriteDone, AmplitudeWriteUndone}
 use Rattle.amplitude_rules.proofs.Facts.{Legal}
 use Rattle.amplitude_rules.proofs.ReadBack.{length-of}
 use Rattle.amplitude_rules.proofs.Exact.{not-refused}
@@ -33,37 +33,37 @@ use Rattle.amplitude_rules.proofs.Sent.{values-legal, sent-reads}
 same-number : (n m : ℕ) → refused n ≡ refused m → n ≡ m
 same-number n m e = cc
 
-pub read-order : ReadOrder
+pub read-order : AmplitudeReadOrder
 unfolding numbersOf readQuestions
 read-order s = refl
 
-pub read-accepted : ReadAccepted
+pub read-accepted : AmplitudeReadAccepted
 unfolding readAmplitude
 read-accepted s = accepted-when refused (accepted (valuesIn s)) (readQuestions s) (λ n p e. not-refused n (valuesIn s) e)
 
-pub read-refused : ReadRefused
+pub read-refused : AmplitudeReadRefused
 unfolding readAmplitude
 read-refused s n = refused-when refused (accepted (valuesIn s)) (readQuestions s) same-number n (not-refused n (valuesIn s))
 
-pub read-answers : ReadAnswers
+pub read-answers : AmplitudeReadAnswers
 unfolding readAmplitude
 read-answers s = rw (read-order s) at (answers-in refused (accepted (valuesIn s)) (readQuestions s))
 
 -- ---- writing
 
-pub write-order : WriteOrder
+pub write-order : AmplitudeWriteOrder
 unfolding numbersOf writeQuestions
 write-order p t sign tenths space = refl
 
-pub write-accepted : WriteAccepted
+pub write-accepted : AmplitudeWriteAccepted
 unfolding writeAmplitude
 write-accepted p t sign tenths space = values-when (writeQuestions p t sign tenths space) _ _
 
-pub write-refused : WriteRefused
+pub write-refused : AmplitudeWriteRefused
 unfolding writeAmplitude
 write-refused p t sign tenths space = number-alone-when (writeQuestions p t sign tenths space) _ _
 
-pub write-answers : WriteAnswers
+pub write-answers : AmplitudeWriteAnswers
 unfolding writeAmplitude
 write-answers p t sign tenths space = no-other (writeQuestions p t sign tenths space) _ _ _ (write-order p t sign tenths space)
 
@@ -77,7 +77,7 @@ module _ (p : Plan) (t : ℕ) (sign : ℤ) (tenths : ℕ) (buffer : List ℕ) wh
   r = valuesAt p t sign tenths
 
   abbrev after : List ℕ
-  after = bufferWritten p t sign tenths buffer
+  after = symbolsWritten p t sign tenths buffer
 
   -- every question is answered yes
   module _ (yes : AllYes (writeQuestions p t sign tenths (length buffer))) where
@@ -94,7 +94,7 @@ module _ (p : Plan) (t : ℕ) (sign : ℤ) (tenths : ℕ) (buffer : List ℕ) wh
     symbols-length = length-of r fits
 
     pub buffer-done : after ≡ symbols r ++ drop n buffer
-    unfolding bufferWritten
+    unfolding symbolsWritten
     buffer-done = rw (write-accepted p t sign tenths (length buffer) .1 yes)
 
     front : take n after ≡ symbols r
@@ -122,11 +122,11 @@ module _ (p : Plan) (t : ℕ) (sign : ℤ) (tenths : ℕ) (buffer : List ℕ) wh
       go k h = ne-eqb k 0 (λ e. absurd (let z : false ≡ true = rw e at h in let w : _≡_ {A = ℕ} 0 1 = cc in omega arith))
 
   undone : (k : ℕ) → FirstNo (writeQuestions p t sign tenths (length buffer)) k → after ≡ buffer
-  unfolding bufferWritten
+  unfolding symbolsWritten
   undone k first = rw (write-refused p t sign tenths (length buffer) k .1 first, above k first)
 
-pub write-done : WriteDone
+pub write-done : AmplitudeWriteDone
 write-done = done
 
-pub write-undone : WriteUndone
+pub write-undone : AmplitudeWriteUndone
 write-undone = undone

@@ -1,6 +1,6 @@
 -- Every statement of specs with its proof: where a proof is missing, this module is not proved.
 -- Assumes nothing.
-use Rattle.amplitude_rules.specs.Theorems.{ReadExactly, SymbolsApart, FieldsOfDate, FlagSeconds, SentReads, WarnedMonth, BothCodes, Table10, OneSymbolMistaken, LeapMinutes, ReadOrder, ReadAccepted, ReadRefused, ReadAnswers, WriteOrder, WriteAccepted, WriteRefused, WriteAnswers, WriteDone, WriteUndone}
+use Rattle.amplitude_rules.specs.Theorems.{ReadExactly, SymbolsApart, FieldsOfDate, FlagSeconds, SentReads, WarnedMonth, BothCodes, Table10, OneSymbolMistaken, LeapMinutes, AmplitudeReadOrder, AmplitudeReadAccepted, AmplitudeReadRefused, AmplitudeReadAnswers, AmplitudeWriteOrder, AmplitudeWriteAccepted, AmplitudeWriteRefused, AmplitudeWriteAnswers, AmplitudeWriteDone, AmplitudeWriteUndone}
 use Rattle.amplitude_rules.proofs.Exact.{read-exactly, symbols-apart}
 use Rattle.amplitude_rules.proofs.Dates.{fields-of-date, flag-seconds}
 use Rattle.amplitude_rules.proofs.Sent.{sent-reads, warned-month, both-codes}
@@ -37,32 +37,32 @@ one-symbol-mistaken′ = one-symbol-mistaken
 leap-minutes′ : LeapMinutes
 leap-minutes′ = leap-minutes
 
-read-order′ : ReadOrder
+read-order′ : AmplitudeReadOrder
 read-order′ = read-order
 
-read-accepted′ : ReadAccepted
+read-accepted′ : AmplitudeReadAccepted
 read-accepted′ = read-accepted
 
-read-refused′ : ReadRefused
+read-refused′ : AmplitudeReadRefused
 read-refused′ = read-refused
 
-read-answers′ : ReadAnswers
+read-answers′ : AmplitudeReadAnswers
 read-answers′ = read-answers
 
-write-order′ : WriteOrder
+write-order′ : AmplitudeWriteOrder
 write-order′ = write-order
 
-write-accepted′ : WriteAccepted
+write-accepted′ : AmplitudeWriteAccepted
 write-accepted′ = write-accepted
 
-write-refused′ : WriteRefused
+write-refused′ : AmplitudeWriteRefused
 write-refused′ = write-refused
 
-write-answers′ : WriteAnswers
+write-answers′ : AmplitudeWriteAnswers
 write-answers′ = write-answers
 
-write-done′ : WriteDone
+write-done′ : AmplitudeWriteDone
 write-done′ = write-done
 
-write-undone′ : WriteUndone
+write-undone′ : AmplitudeWriteUndone
 write-undone′ = write-undone

@@ -23,7 +23,7 @@ use Rattle.sequence.specs.Bench.{rows10And37}
 use Rattle.amplitude_rules.specs.declared.Values.{Values}
 use Rattle.amplitude_rules.specs.Amplitude.{legalUT1, leapMark, legalValues, fieldsOf, symbols}
 use Rattle.amplitude_rules.specs.Reading.{valuesIn, readQuestions, refused, accepted, readAmplitude}
-use Rattle.amplitude_rules.specs.Writing.{warningAt, valuesAt, writeQuestions, writeAmplitude, bufferWritten}
+use Rattle.amplitude_rules.specs.Writing.{warningAt, valuesAt, writeQuestions, writeAmplitude, symbolsWritten}
 
 -- ---- symbols and values
 
@@ -123,20 +123,20 @@ LeapMinutes =
 abbrev pub readRefusals : List ℕ
 readRefusals = 17 ∷ 18 ∷ []
 
-abbrev pub ReadOrder : Type 0
-ReadOrder = (s : List ℕ) → numbersOf (readQuestions s) ≡ readRefusals
+abbrev pub AmplitudeReadOrder : Type 0
+AmplitudeReadOrder = (s : List ℕ) → numbersOf (readQuestions s) ≡ readRefusals
 
 -- the values exactly when every question is answered yes
-abbrev pub ReadAccepted : Type 0
-ReadAccepted = (s : List ℕ) → readAmplitude s ≡ accepted (valuesIn s) ↔ AllYes (readQuestions s)
+abbrev pub AmplitudeReadAccepted : Type 0
+AmplitudeReadAccepted = (s : List ℕ) → readAmplitude s ≡ accepted (valuesIn s) ↔ AllYes (readQuestions s)
 
 -- n alone exactly when the questions before n are answered yes and question n is not
-abbrev pub ReadRefused : Type 0
-ReadRefused = (s : List ℕ) (n : ℕ) → readAmplitude s ≡ refused n ↔ FirstNo (readQuestions s) n
+abbrev pub AmplitudeReadRefused : Type 0
+AmplitudeReadRefused = (s : List ℕ) (n : ℕ) → readAmplitude s ≡ refused n ↔ FirstNo (readQuestions s) n
 
 -- there is no other answer, and a refusal is one of the numbers
-abbrev pub ReadAnswers : Type 0
-ReadAnswers =
+abbrev pub AmplitudeReadAnswers : Type 0
+AmplitudeReadAnswers =
     (s : List ℕ) → (readAmplitude s ≡ accepted (valuesIn s)) ⊎ ((n : ℕ) × (oneOf readRefusals n ≡ true) × (readAmplitude s ≡ refused n))
 
 -- ---- the refusals of writing
@@ -145,44 +145,44 @@ ReadAnswers =
 abbrev pub writeRefusals : List ℕ
 writeRefusals = 1 ∷ 3 ∷ 18 ∷ 4 ∷ []
 
-abbrev pub WriteOrder : Type 0
-WriteOrder = (p : Plan) (t : ℕ) (sign : ℤ) (tenths space : ℕ) → numbersOf (writeQuestions p t sign tenths space) ≡ writeRefusals
+abbrev pub AmplitudeWriteOrder : Type 0
+AmplitudeWriteOrder = (p : Plan) (t : ℕ) (sign : ℤ) (tenths space : ℕ) → numbersOf (writeQuestions p t sign tenths space) ≡ writeRefusals
 
 -- 0 and the number of symbols exactly when every question is answered yes
-abbrev pub WriteAccepted : Type 0
-WriteAccepted =
+abbrev pub AmplitudeWriteAccepted : Type 0
+AmplitudeWriteAccepted =
     (p : Plan) (t : ℕ) (sign : ℤ) (tenths space : ℕ)
     → writeAmplitude p t sign tenths space ≡ found (lengthAt p t ∷ []) ↔ AllYes (writeQuestions p t sign tenths space)
 
 -- k alone exactly when the questions before k in the list are answered yes and question k is not
-abbrev pub WriteRefused : Type 0
-WriteRefused =
+abbrev pub AmplitudeWriteRefused : Type 0
+AmplitudeWriteRefused =
     (p : Plan) (t : ℕ) (sign : ℤ) (tenths space k : ℕ)
     → writeAmplitude p t sign tenths space ≡ refusedWriting k ↔ FirstNo (writeQuestions p t sign tenths space) k
 
 -- there is no other answer, and a refusal is one of the numbers
-abbrev pub WriteAnswers : Type 0
-WriteAnswers =
+abbrev pub AmplitudeWriteAnswers : Type 0
+AmplitudeWriteAnswers =
     (p : Plan) (t : ℕ) (sign : ℤ) (tenths space : ℕ)
     → (writeAmplitude p t sign tenths space ≡ found (lengthAt p t ∷ []))
     ⊎ ((k : ℕ) × (oneOf writeRefusals k ≡ true) × (writeAmplitude p t sign tenths space ≡ refusedWriting k))
 
 -- accepted: the symbols stand first in the buffer and read back as sent, and the bytes after them are as before
 pub record Done (p : Plan) (t : ℕ) (sign : ℤ) (tenths : ℕ) (buffer : List ℕ) : Type 0 where
-  pub written : take (lengthAt p t) (bufferWritten p t sign tenths buffer) ≡ symbols (valuesAt p t sign tenths)
-  pub rest : drop (lengthAt p t) (bufferWritten p t sign tenths buffer) ≡ drop (lengthAt p t) buffer
-  pub length : length (bufferWritten p t sign tenths buffer) ≡ length buffer
-  pub read : readAmplitude (take (lengthAt p t) (bufferWritten p t sign tenths buffer)) ≡ accepted (valuesAt p t sign tenths)
+  pub written : take (lengthAt p t) (symbolsWritten p t sign tenths buffer) ≡ symbols (valuesAt p t sign tenths)
+  pub rest : drop (lengthAt p t) (symbolsWritten p t sign tenths buffer) ≡ drop (lengthAt p t) buffer
+  pub length : length (symbolsWritten p t sign tenths buffer) ≡ length buffer
+  pub read : readAmplitude (take (lengthAt p t) (symbolsWritten p t sign tenths buffer)) ≡ accepted (valuesAt p t sign tenths)
 
-abbrev pub WriteDone : Type 0
-WriteDone =
+abbrev pub AmplitudeWriteDone : Type 0
+AmplitudeWriteDone =
     (p : Plan) (t : ℕ) (sign : ℤ) (tenths : ℕ) (buffer : List ℕ)
     → AllYes (writeQuestions p t sign tenths (length buffer))
     → Done p t sign tenths buffer
 
 -- refused: the buffer is as it was
-abbrev pub WriteUndone : Type 0
-WriteUndone =
+abbrev pub AmplitudeWriteUndone : Type 0
+AmplitudeWriteUndone =
     (p : Plan) (t : ℕ) (sign : ℤ) (tenths : ℕ) (buffer : List ℕ) (k : ℕ)
     → FirstNo (writeQuestions p t sign tenths (length buffer)) k
-    → bufferWritten p t sign tenths buffer ≡ buffer
+    → symbolsWritten p t sign tenths buffer ≡ buffer

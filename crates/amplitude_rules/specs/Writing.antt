@@ -41,8 +41,8 @@ unfoldable pub writeAmplitude : Plan → ℕ → ℤ → ℕ → ℕ → Numbers
 writeAmplitude p t sign tenths space = asked refused (writeQuestions p t sign tenths space) (found (lengthAt p t ∷ []))
 
 -- the buffer after writing: the symbols and what stood after them, or the buffer as it was
-unfoldable pub bufferWritten : Plan → ℕ → ℤ → ℕ → List ℕ → List ℕ
-bufferWritten p t sign tenths buffer =
+unfoldable pub symbolsWritten : Plan → ℕ → ℤ → ℕ → List ℕ → List ℕ
+symbolsWritten p t sign tenths buffer =
     pick (eqb (writeAmplitude p t sign tenths (length buffer) .number) 0)
     (symbols (valuesAt p t sign tenths) ++ drop (lengthAt p t) buffer)
     buffer

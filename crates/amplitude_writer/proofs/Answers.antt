@@ -16,12 +16,12 @@ use Rattle.plan.specs.Plan.{legalPlan, lengthAt}
 use Rattle.plan.specs.declared.Plan.{Plan}
 use Rattle.amplitude_rules.specs.declared.Values.{Values}
 use Rattle.amplitude_rules.specs.Amplitude.{legalUT1, symbols}
-use Rattle.amplitude_rules.specs.Writing.{valuesAt, writeQuestions, writeAmplitude, bufferWritten}
+use Rattle.amplitude_rules.specs.Writing.{valuesAt, writeQuestions, writeAmplitude, symbolsWritten}
 use Rattle.amplitude_rules.proofs.Refusals.{write-accepted, write-refused, write-undone, buffer-done}
 
 module _ (p : Plan) (t : ℕ) (sign : ℤ) (tenths : ℕ) (buffer : List ℕ) where
   abbrev Refused : ℕ → Type 0
-  Refused k = (refused k ≡ writeAmplitude p t sign tenths (length buffer)) × (buffer ≡ bufferWritten p t sign tenths buffer)
+  Refused k = (refused k ≡ writeAmplitude p t sign tenths (length buffer)) × (buffer ≡ symbolsWritten p t sign tenths buffer)
 
   first : (k : ℕ) → FirstNo (writeQuestions p t sign tenths (length buffer)) k → Refused k
   first k h = (sym (write-refused p t sign tenths (length buffer) k .1 h), sym (write-undone p t sign tenths buffer k h))
@@ -55,7 +55,7 @@ module _ (p : Plan) (t : ℕ) (sign : ℤ) (tenths : ℕ) (buffer : List ℕ) wh
           yes = (q1, (le-leb t maxMinute (omega arith), (q18, (le-leb (lengthAt p t) (length buffer) (omega (arith, seconds-are)), tt))))
 
           pub all-yes : (after : List ℕ) → after ≡ symbols r ++ drop (r .seconds) buffer
-              → (found (r .seconds ∷ []) ≡ writeAmplitude p t sign tenths (length buffer)) × (after ≡ bufferWritten p t sign tenths buffer)
+              → (found (r .seconds ∷ []) ≡ writeAmplitude p t sign tenths (length buffer)) × (after ≡ symbolsWritten p t sign tenths buffer)
           unfolding valuesAt
           all-yes after a = (
             rw seconds-are (sym (write-accepted p t sign tenths (length buffer) .1 yes)),

@@ -8,7 +8,7 @@ ghost use Rattle.calendar.specs.Calendar.{minuteCount};
 ghost use Rattle.codewords.specs.CodeWords.{daylightNumber};
 ghost use Rattle.plan.specs.Plan.{daylightAt};
 ghost use Rattle.amplitude_rules.specs.Amplitude.{digits, signBits, legalSign, legalUT1, legalValues, fieldsOf, symbols};
-ghost use Rattle.amplitude_rules.specs.Writing.{warningAt, valuesAt, writeAmplitude, bufferWritten};
+ghost use Rattle.amplitude_rules.specs.Writing.{warningAt, valuesAt, writeAmplitude, symbolsWritten};
 ghost use Rattle.amplitude_row.specs.Row.{rowNumbers};
 ghost use Rattle.amplitude_writer.specs.Answer.{writeRefusalNumber, writeNumbers};
 use amplitude_row::Row;
@@ -182,7 +182,7 @@ fn put(r: Values, out: &mut [u8])
 
 // Writes one minute; a refused one leaves the buffer as it was.
 pub fn write_minute(plan: Plan, minute: u32, sign: i32, tenths: u32, out: &mut [u8]) -> WriteAnswer
-    ensures { λ r. ⌜ (writeNumbers r ≡ writeAmplitude plan minute sign tenths (length (now (out .entry)))) × (now (out .exit) ≡ bufferWritten plan minute sign tenths (now (out .entry))) ⌝ }
+    ensures { λ r. ⌜ (writeNumbers r ≡ writeAmplitude plan minute sign tenths (length (now (out .entry)))) × (now (out .exit) ≡ symbolsWritten plan minute sign tenths (now (out .entry))) ⌝ }
 {
     if !plan.is_legal() {
         return WriteAnswer::Refused(WriteRefusal::IllegalPlan);

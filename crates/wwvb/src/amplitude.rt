@@ -4,7 +4,7 @@ ghost use mathlib.Core.Bool.{true};
 ghost use lib.ListN.{length};
 ghost use Rattle.amplitude_rules.specs.Amplitude.{legalValues};
 ghost use Rattle.amplitude_rules.specs.Reading.{readAmplitude};
-ghost use Rattle.amplitude_rules.specs.Writing.{writeAmplitude, bufferWritten};
+ghost use Rattle.amplitude_rules.specs.Writing.{writeAmplitude, symbolsWritten};
 ghost use Rattle.wwvb.specs.Replies.{planOf, replyNumbers};
 ghost use Rattle.wwvb.specs.Amplitude.{symbolsReply, acceptedReply, refusedReply, amplitudeReply};
 use crate::WriteReply;
@@ -49,7 +49,7 @@ pub extern "C" fn wwvb_write_amplitude(
         ⌜ (symbolsReply r
         ≡ replyNumbers 1 (writeAmplitude (planOf kind spring autumn «leap_month» «leap_sign» notice) minute «ut1_sign» «ut1_tenths» (length (now (out .entry)))))
         × (now (out .exit)
-        ≡ bufferWritten (planOf kind spring autumn «leap_month» «leap_sign» notice) minute «ut1_sign» «ut1_tenths» (now (out .entry))) ⌝ }
+        ≡ symbolsWritten (planOf kind spring autumn «leap_month» «leap_sign» notice) minute «ut1_sign» «ut1_tenths» (now (out .entry))) ⌝ }
 {
     let plan = Plan {
         kind,

@@ -10,7 +10,7 @@ use lib.IntN.{ℤ}
 use lib.ListN.{length}
 use Rattle.bits.specs.Numbers.{Numbers}
 use Rattle.plan.specs.declared.Plan.{Plan}
-use Rattle.amplitude_rules.specs.Writing.{writeAmplitude, bufferWritten}
+use Rattle.amplitude_rules.specs.Writing.{writeAmplitude, symbolsWritten}
 use Rattle.amplitude_writer.specs.Answer.{writeRefusalNumber, writeNumbers}
 use Rattle.amplitude_writer.specs.declared.WriteRefusal.{WriteRefusal}
 use Rattle.amplitude_writer.specs.declared.WriteRefusal.the-variants.{IllegalPlan, Minute, Ut1, Space}
@@ -32,9 +32,9 @@ module _ (a : tie.Start) where
       → w ≡ writeAmplitude (plan (a .args .leap-sign)) (a .args .minute) (a .args .ut1-sign) (a .args .ut1-tenths) (length (a .args .out .now))
   numbers e = e ∙ ap₂ (λ (z y : ℤ). writeAmplitude (plan z) (a .args .minute) y (a .args .ut1-tenths) (length (a .args .out .now))) (toZ-ofZ (a .fits .leap-sign)) (toZ-ofZ (a .fits .ut1-sign))
 
-  after : {l : List ℕ} → l ≡ bufferWritten (plan (through (a .args .leap-sign))) (a .args .minute) (through (a .args .ut1-sign)) (a .args .ut1-tenths) (a .args .out .now)
-      → l ≡ bufferWritten (plan (a .args .leap-sign)) (a .args .minute) (a .args .ut1-sign) (a .args .ut1-tenths) (a .args .out .now)
-  after e = e ∙ ap₂ (λ (z y : ℤ). bufferWritten (plan z) (a .args .minute) y (a .args .ut1-tenths) (a .args .out .now)) (toZ-ofZ (a .fits .leap-sign)) (toZ-ofZ (a .fits .ut1-sign))
+  after : {l : List ℕ} → l ≡ symbolsWritten (plan (through (a .args .leap-sign))) (a .args .minute) (through (a .args .ut1-sign)) (a .args .ut1-tenths) (a .args .out .now)
+      → l ≡ symbolsWritten (plan (a .args .leap-sign)) (a .args .minute) (a .args .ut1-sign) (a .args .ut1-tenths) (a .args .out .now)
+  after e = e ∙ ap₂ (λ (z y : ℤ). symbolsWritten (plan z) (a .args .minute) y (a .args .ut1-tenths) (a .args .out .now)) (toZ-ofZ (a .fits .leap-sign)) (toZ-ofZ (a .fits .ut1-sign))
 
 refused-reply : (x : WriteRefusal) → writeRefusalNumber x ∷ 0 ∷ [] ≡ replyNumbers 1 (writeNumbers (Refused x))
 unfolding replyNumbers
