@@ -1,7 +1,7 @@
 #!/usr/bin/env python3
-"""What the program `vectors` reads, and what it has to write: a model of the WWVB phase code by itself, from documents 01
-and 02 and the tables of NIST's Enhanced WWVB Broadcast Format (Revision 1.0), in the plainest form and with Python's own
-calendar. It shares no code with the crates.
+"""What the program `vectors` reads, and what it has to write: a model of the WWVB phase code and of the amplitude code by
+itself, from documents 01 and 02 and the tables of NIST's Enhanced WWVB Broadcast Format (Revision 1.0, and Table 1 of the
+draft that is source document 000), in the plainest form and with Python's own calendar. It shares no code with the crates.
 
 A case is a line of the program's input: a letter that says what is tried, numbers that are not printed, a space, a text,
 a `#`, and bytes to be read. The program prints the text, and after it what the code gives; the model says what that is.
@@ -10,6 +10,7 @@ Together the cases get each number that a call can give, and no other.
 usage: tools/vectors.py                     prints the lines
        tools/vectors.py --write [FOLDER]    writes crates/vectors/stdin and crates/vectors/stdout, or those files in the folder
 """
+import calendar
 import datetime
 import functools
 import pathlib
@@ -51,6 +52,25 @@ PLACE_BITS = [*range(13, 19), *range(20, 29), *range(30, 39), *range(40, 47)]
 
 # Table 10, bits 0 to 59 in rows of ten; bits 50 to 59 by its text
 TABLE_10 = "0011101101" "0001001000" "0011001000" "0110001101" "0011010001" "0110110110"
+
+# The amplitude code in source document 000, Table 1: M a marker, 0 fixed, else a field and the weight of its bit. UT1 counts
+# tenths. Second 60, if there, is a marker as 59 is (document 02, 5).
+TABLE_1 = """
+M minute40 minute20 minute10 0 minute8 minute4 minute2 minute1 M
+0 0 hour20 hour10 0 hour8 hour4 hour2 hour1 M
+0 0 day200 day100 0 day80 day40 day20 day10 M
+day8 day4 day2 day1 0 0 sign4 sign2 sign1 M
+tenths8 tenths4 tenths2 tenths1 0 year80 year40 year20 year10 M
+year8 year4 year2 year1 0 leap1 warning1 dst2 dst1 M
+M
+""".split()
+FIXED = {"M": 2, "0": 0}
+SIGNS = {1: 0b101, -1: 0b010}
+
+# Table 10, the amplitude code, seconds 0 to 59 in rows of ten; and its fields
+TABLE_10_AMPLITUDE = "2011000002" "0001001112" "0001010002" "0110001012" "0100000012" "0010010112"
+TABLE_10_FIELDS = {"minute": 30, "hour": 17, "day": 186, "year": 12, "sign": 0b101, "tenths": 4, "leap": 1, "warning": 0,
+                   "dst": 0b11}
 
 START = datetime.datetime(2000, 1, 1)
 
@@ -209,6 +229,72 @@ def read_recording(bits, buffer, space):
     return end(0)
 
 
+# ---- the amplitude code
+
+def cell(name):
+    """The field of a second, the power of ten of the digit that its bit belongs to, and the bit's weight in that digit."""
+    field, weight = re.fullmatch("([a-z]+)([0-9]+)", name).groups()
+    return field, 10 ** (len(weight) - 1), int(weight[0])
+
+
+def symbols_of(fields, length):
+    def symbol(name):
+        if name in FIXED:
+            return FIXED[name]
+        field, power, weight = cell(name)
+        return int(fields[field] // power % 10 & weight != 0)
+    return [symbol(name) for name in TABLE_1[:length]]
+
+
+def amplitude(plan, minute, sign, tenths):
+    """The symbols of a minute."""
+    length, dst, leap, _ = facts(plan, minute)
+    d = date_of(minute)
+    fields = {"minute": d.minute, "hour": d.hour, "day": d.timetuple().tm_yday, "year": d.year % 100, "sign": SIGNS[sign],
+              "tenths": tenths, "leap": calendar.isleap(d.year), "warning": leap != 0, "dst": int(dst, 2)}
+    return symbols_of(fields, length)
+
+
+def write_amplitude(plan, minute, sign, tenths, space):
+    """The refusal or 0, and the symbols: questions 1, 3, 18 and 4."""
+    if not legal(plan):
+        return 1, []
+    if minute > LAST:
+        return 3, []
+    if sign not in SIGNS or tenths > 9:
+        return 18, []
+    symbols = amplitude(plan, minute, sign, tenths)
+    return (0, symbols) if len(symbols) <= space else (4, [])
+
+
+def read_amplitude(symbols):
+    """The refusal alone; or 0, the date with its weekday, UT1 sign and tenths, warning, dst_on[1] dst_on[0], length."""
+    if not 59 <= len(symbols) <= 61:
+        return (17,)
+    named = list(zip(TABLE_1, symbols))
+    if any(s != FIXED[name] if name in FIXED else s not in (0, 1) for name, s in named):
+        return (17,)
+    numbers = {}
+    for name, s in named:
+        if name not in FIXED:
+            field, power, weight = cell(name)
+            numbers[field, power] = numbers.get((field, power), 0) + s * weight
+    if any(n > 9 for n in numbers.values()):
+        return (18,)
+    fields = {field: sum(n * power for (f, power), n in numbers.items() if f == field) for field, _ in numbers}
+    signs = [sign for sign, bits in SIGNS.items() if bits == fields["sign"]]
+    year = 2000 + fields["year"]
+    if not signs or fields["minute"] > 59 or fields["hour"] > 23 or fields["leap"] != calendar.isleap(year):
+        return (18,)
+    d = datetime.datetime(year, 1, 1, fields["hour"], fields["minute"]) + datetime.timedelta(days=fields["day"] - 1)
+    if d.year != year:
+        return (18,)
+    warned_end = fields["warning"] and is_month_end(minute_of(*shown(d)[:5]))
+    if len(symbols) not in ((59, 61) if warned_end else (60,)):
+        return (18,)
+    return (0, *shown(d), signs[0], fields["tenths"], fields["warning"], f"{fields['dst']:02b}", len(symbols))
+
+
 # ---- listing
 
 LISTING_SPACE = 20 + 1000 * len("52595000 60 " + 60 * "0" + "\n") + 1       # 1,000 frames, one of them long
@@ -258,6 +344,8 @@ NUMBERS = {
     "one frame": {0, 5, 6, 7, 8, 9, 10, 11, 13},
     "first frame": {0, 5, 6, 7, 8, 9, 10, 11, 13},
     "later frame": {0, 5, 6, 7, 8, 9, 10, 11, 13, 14},
+    "writing the amplitude code": {0, 1, 3, 18, 4},
+    "reading the amplitude code": {0, 17, 18},
 }
 GIVEN = {}
 
@@ -502,6 +590,45 @@ def all_heard(plan, m, places, frees):
     recording(label, bits, len(bits), len(entries))
 
 
+def amplitude_written(plan, m, sign, tenths, space=64):
+    """A minute written into so many bytes of 64, and read. What is read is as sent, by plan, minute and UT1."""
+    refusal, symbols = write_amplitude(plan, m, sign, tenths, space)
+    out = symbols + [7] * (64 - len(symbols))
+    answer = spaced(told("writing the amplitude code", refusal), len(symbols), digits(out))
+    if not refusal:
+        length, dst, leap, _ = facts(plan, m)
+        read = read_amplitude(symbols)
+        assert read == (0, *shown(date_of(m)), sign, tenths, int(leap != 0), dst, length)
+        answer += ":" + spaced(told("reading the amplitude code", read[0]), *read[1:])
+    case("e", f"{plan_text(plan)} minute {m}, UT1 {sign} {tenths}, in {space}:", answer)
+
+
+def amplitude_read(label, symbols):
+    answer = read_amplitude(symbols)
+    told("reading the amplitude code", answer[0])
+    case("r", f"amplitude, {label}:", spaced(*answer), given(symbols))
+
+
+def changed(symbols, *changes):
+    """The symbols with others in their places: each change is a second and the symbols from it on."""
+    symbols = list(symbols)
+    for at, others in changes:
+        symbols[at:at + len(others)] = map(int, others)
+    return symbols
+
+
+def table_10_changed(*changes):
+    """Table 10's minute with other symbols."""
+    name = "".join(f", second {at} at {digits(others)}" for at, others in changes)
+    amplitude_read(f"Table 10{name}", changed(map(int, TABLE_10_AMPLITUDE), *changes))
+
+
+def table_10_fields(length=60, **fields):
+    """Table 10's minute with other fields, in so many seconds."""
+    name = "".join(f", {field} {n}" for field, n in fields.items())
+    amplitude_read(f"Table 10 in {length} symbols{name}", symbols_of({**TABLE_10_FIELDS, **fields}, length))
+
+
 def listed(name, text, alone=False, space=LISTING_SPACE):
     """A line, handed with its line feed and what follows, or alone. The check sum is of the whole buffer."""
     out = listing(text.encode() if alone else text.encode() + b"\n" + b"0 10 37 0 0 0 0 1\n")
@@ -714,6 +841,122 @@ def inversions():
             one_inverted(plan, m, k)
 
 
+def amplitude_writings():
+    leap_minute = 6_573_599
+    assert digits(amplitude(USUAL, JULY_4, 1, 4)) == TABLE_10_AMPLITUDE
+    amplitude_written(USUAL, JULY_4, 1, 4)
+    # the minute before the leap month and its first; the leap minute with those beside it
+    for plan in (LONG, SHORT):
+        for m in (6_530_399, 6_530_400, leap_minute - 1, leap_minute, leap_minute + 1):
+            amplitude_written(plan, m, -1, 6)
+    # each daylight state in its first and last minute; kinds 1 and 2
+    for m in (6_412_319, 6_412_320, 6_413_759, 6_413_760, 6_755_039, 6_755_040, 6_756_479, 6_756_480):
+        amplitude_written(USUAL, m, 1, 1)
+    for plan in ((1, 0, 0, 0, 0, 0), (2, 0, 0, 0, 0, 1)):
+        amplitude_written(plan, JULY_4, 1, 4)
+    # the first and the last minute, with no leap second in the month and with one of each sign
+    for m, month in ((0, 0), (LAST, 1199)):
+        for sign in (0, 1, -1):
+            amplitude_written((0, 10, 37, month if sign else 0, sign, 0), m, 1, 0)
+    # the limits of UT1
+    for sign in (1, -1):
+        for tenths in (0, 9):
+            amplitude_written(USUAL, 8_717_610, sign, tenths)
+    # each decimal digit in each place that can have it, but for the 2 of the hour and the 3 of the day: these follow
+    for k in range(10):
+        hour, minute, day = k % 2 * 10 + k, k % 6 * 10 + k, k % 3 * 100 + k * 10 + 9 - k
+        amplitude_written(USUAL, minute_of(2000 + 11 * k, 1, 1, hour, minute) + (day - 1) * 1440, (1, -1)[k % 2], k)
+    # day 366 and day 365 at the end of a year, day 1, and day 60 of a leap year and of a common one
+    for d in ((2000, 12, 31, 23, 59), (2001, 12, 31, 23, 59), (2001, 1, 1, 0, 0), (2012, 2, 29, 12, 0), (2013, 3, 1, 12, 0)):
+        amplitude_written(USUAL, minute_of(*d), 1, 3)
+    # question 1: kind, rows, leap month, leap sign, notice
+    for plan in ((3, 0, 0, 0, 0, 0), (0, 0, 37, 0, 0, 0), (0, 10, 49, 0, 0, 0), (1, 10, 37, 0, 0, 0), (0, 10, 37, 1200, 1, 0),
+                 (0, 10, 37, 149, 0, 0), (0, 10, 37, 149, 2, 0), (0, 10, 37, 149, -2, 0), (0, 10, 37, 0, 0, 2)):
+        amplitude_written(plan, JULY_4, 1, 4)
+    # question 3
+    for m in (LAST + 1, 2**32 - 1):
+        amplitude_written(USUAL, m, 1, 4)
+    # question 18; the last two would be legal if they were taken modulo 256
+    for sign, tenths in ((0, 0), (2, 0), (-2, 0), (1, 10), (-1, 10), (1, 2**32 - 1), (257, 4), (1, 256)):
+        amplitude_written(USUAL, JULY_4, sign, tenths)
+    # question 4: a byte too few and exactly enough for each length; no bytes
+    for plan, m, length in ((SHORT, leap_minute, 59), (USUAL, JULY_4, 60), (LONG, leap_minute, 61)):
+        amplitude_written(plan, m, -1, 6, length - 1)
+        amplitude_written(plan, m, -1, 6, length)
+    amplitude_written(USUAL, JULY_4, 1, 4, 0)
+    # no to two questions, then to all: the first is given
+    illegal = (3, 0, 0, 0, 0, 0)
+    for numbers in ((illegal, LAST + 1, 1, 4), (USUAL, LAST + 1, 0, 4), (USUAL, LAST + 1, 1, 10), (USUAL, JULY_4, 0, 4, 59),
+                    (USUAL, JULY_4, 1, 10, 59), (illegal, JULY_4, 0, 4), (illegal, JULY_4, 1, 4, 59), (USUAL, LAST + 1, 1, 4, 59),
+                    (illegal, LAST + 1, 0, 10, 0)):
+        amplitude_written(*numbers)
+
+
+def amplitude_readings():
+    assert digits(symbols_of(TABLE_10_FIELDS, 60)) == TABLE_10_AMPLITUDE
+    long = amplitude(LONG, 6_573_599, -1, 6)
+    table_10_changed()
+    # 17: the length
+    for n in (0, 58):
+        amplitude_read(f"Table 10, first {n}", [int(s) for s in TABLE_10_AMPLITUDE[:n]])
+    amplitude_read("Table 10, twice", [int(s) for s in TABLE_10_AMPLITUDE * 2])
+    amplitude_read("62 symbols", long + [2])
+    # 17: each fixed 0 as 1, and each marker as 0
+    for k, name in enumerate(TABLE_1[:60]):
+        if name in FIXED:
+            table_10_changed((k, [1 if name == "0" else 0]))
+    # 17: a marker at the first bit of each digit and field, and at 58; bytes that are no symbols, and a marker for a fixed 0
+    for k in (1, 5, 12, 15, 22, 25, 30, 36, 40, 45, 50, 55, 56, 57, 58):
+        table_10_changed((k, [2]))
+    for k, value in ((1, 3), (8, 255), (19, 255), (34, 2), (59, 3)):
+        table_10_changed((k, [value]))
+    # 17: the markers at 59 and 60
+    table_10_changed((59, [1]))
+    for k in (59, 60):
+        for value in (0, 1):
+            amplitude_read(f"61 symbols, second {k} at {value}", changed(long, (k, [value])))
+    # 18: each digit of four bits at 10; but for the tenths and the year's tens the field would stay in range
+    for k in (5, 15, 25, 30, 40, 45, 50):
+        table_10_changed((k, "1010"))
+    # 18: all signs but 101 and 010
+    for n in range(8):
+        table_10_changed((36, f"{n:03b}"))
+    # 18: minute, hour and day of the year beside their limits
+    for m in (59, 60, 79):
+        table_10_fields(minute=m)
+    for hour in (23, 24, 39):
+        table_10_fields(hour=hour)
+    for year, leap, days in ((0, 1, (0, 1, 366)), (12, 1, (0, 366, 367, 399)), (11, 0, (0, 365, 366)), (99, 0, (365, 366))):
+        for day in days:
+            table_10_fields(year=year, leap=leap, day=day)
+    # 18: the leap mark against the year
+    for year, leap in ((0, 0), (11, 1), (12, 0), (96, 0), (99, 1)):
+        table_10_fields(year=year, leap=leap)
+    # 18: the length against the date and the warning: a month's last minute, mid-month, the minutes beside a month's end
+    for length in (59, 60, 61):
+        for warning in (1, 0):
+            table_10_fields(length, day=182, hour=23, minute=59, warning=warning)
+            table_10_fields(length, warning=warning)
+    for length in (60, 61):
+        table_10_fields(length, day=182, hour=23, minute=58, warning=1)
+        table_10_fields(length, day=183, hour=0, minute=0, warning=1)
+    # 18: the end of February in a common and in a leap year, and that of the century
+    for year, leap, day in ((11, 0, 59), (12, 1, 59), (12, 1, 60), (99, 0, 365)):
+        table_10_fields(61, year=year, leap=leap, day=day, hour=23, minute=59, warning=1)
+    # no plan is asked: the warning and each daylight state stand with any date; plus and minus 0 tenths differ
+    for dst in ("00", "01", "10"):
+        table_10_changed((56, "1" + dst))
+    for sign in ("101", "010"):
+        table_10_changed((36, sign), (40, "0000"))
+    # 17 before 18, wherever they stand
+    for changes in (((5, "1010"), (54, "1")), ((4, "1"), (50, "1111")), ((1, "111"), (59, "0")), ((36, "000"), (58, "2")),
+                    ((0, "1"), (55, "0"))):
+        table_10_changed(*changes)
+    amplitude_read("62 symbols, leap mark 0", changed(long + [2], (55, "0")))
+    amplitude_read("58 symbols, sign 000", changed(long[:58], (36, "000")))
+    amplitude_read("Table 10, 59 symbols, second 49 at 0", changed(map(int, TABLE_10_AMPLITUDE[:59]), (49, "0")))
+
+
 EXAMPLE_LINE = "0 10 37 0 0 0 6578970 1"
 
 LISTED = [
@@ -816,6 +1059,8 @@ def main():
     refused_readings()
     echoes()
     inversions()
+    amplitude_writings()
+    amplitude_readings()
     listings()
     assert GIVEN == NUMBERS
     text = "\n".join(LINES) + "\n"

@@ -1,5 +1,6 @@
 // What each letter stands for.
 use crate::listings;
+use trials::amplitude_code;
 use trials::dates;
 use trials::reading;
 use trials::sending;
@@ -13,6 +14,9 @@ pub fn call(letter: u8, text: &[u8], behind: &[u8], n: usize) {
         b't' => dates::local(text),
         // given bits as one frame, as a recording
         b'o' | b'a' => reading::given(letter, text, behind, n),
+        // a minute of the amplitude code written and read, given symbols read
+        b'e' => amplitude_code::written(text),
+        b'r' => amplitude_code::given(behind, n),
         // a line of `station` with no line feed, with one
         b'p' => listings::alone(text, behind, n),
         b'q' => listings::listed(text, behind),
