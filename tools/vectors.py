@@ -67,7 +67,7 @@ M
 FIXED = {"M": 2, "0": 0}
 SIGNS = {1: 0b101, -1: 0b010}
 
-# Table 10, the amplitude code, seconds 0 to 59 in rows of ten; and its fields
+# Table 10, the amplitude code, seconds 0 to 59 in rows of ten; 50 to 52 are cut off in our copy, and follow from its date
 TABLE_10_AMPLITUDE = "2011000002" "0001001112" "0001010002" "0110001012" "0100000012" "0010010112"
 TABLE_10_FIELDS = {"minute": 30, "hour": 17, "day": 186, "year": 12, "sign": 0b101, "tenths": 4, "leap": 1, "warning": 0,
                    "dst": 0b11}
@@ -894,13 +894,13 @@ def amplitude_writings():
 
 def amplitude_readings():
     assert digits(symbols_of(TABLE_10_FIELDS, 60)) == TABLE_10_AMPLITUDE
-    long = amplitude(LONG, 6_573_599, -1, 6)
+    longest = amplitude(LONG, 6_573_599, -1, 6)
     table_10_changed()
     # 17: the length
     for n in (0, 58):
         amplitude_read(f"Table 10, first {n}", [int(s) for s in TABLE_10_AMPLITUDE[:n]])
     amplitude_read("Table 10, twice", [int(s) for s in TABLE_10_AMPLITUDE * 2])
-    amplitude_read("62 symbols", long + [2])
+    amplitude_read("62 symbols", longest + [2])
     # 17: each fixed 0 as 1, and each marker as 0
     for k, name in enumerate(TABLE_1[:60]):
         if name in FIXED:
@@ -914,7 +914,7 @@ def amplitude_readings():
     table_10_changed((59, [1]))
     for k in (59, 60):
         for value in (0, 1):
-            amplitude_read(f"61 symbols, second {k} at {value}", changed(long, (k, [value])))
+            amplitude_read(f"61 symbols, second {k} at {value}", changed(longest, (k, [value])))
     # 18: each digit of four bits at 10; but for the tenths and the year's tens the field would stay in range
     for k in (5, 15, 25, 30, 40, 45, 50):
         table_10_changed((k, "1010"))
@@ -952,8 +952,8 @@ def amplitude_readings():
     for changes in (((5, "1010"), (54, "1")), ((4, "1"), (50, "1111")), ((1, "111"), (59, "0")), ((36, "000"), (58, "2")),
                     ((0, "1"), (55, "0"))):
         table_10_changed(*changes)
-    amplitude_read("62 symbols, leap mark 0", changed(long + [2], (55, "0")))
-    amplitude_read("58 symbols, sign 000", changed(long[:58], (36, "000")))
+    amplitude_read("62 symbols, leap mark 0", changed(longest + [2], (55, "0")))
+    amplitude_read("58 symbols, sign 000", changed(longest[:58], (36, "000")))
     amplitude_read("Table 10, 59 symbols, second 49 at 0", changed(map(int, TABLE_10_AMPLITUDE[:59]), (49, "0")))
 
 

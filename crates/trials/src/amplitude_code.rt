@@ -34,7 +34,7 @@ pub fn given(digits: &[u8], n: usize) {
     read(&symbols, n);
 }
 
-// Writes the minute of a plan in one text with the UT1 in another: the refusal or 0 is printed, the number of symbols given back.
+// Writes a minute: one text has the plan and the minute, the other UT1. The refusal or 0 is printed, the number of symbols given back.
 fn write(plan: &[u8], ut1: &[u8], out: &mut [u8]) -> usize {
     let answer = amplitude::write_minute(
         cases::plan(plan),
@@ -75,7 +75,8 @@ fn minute(plan: &[u8], ut1: &[u8]) {
     }
 }
 
-// `plan .. minute M, UT1 SIGN TENTHS, in SPACE:` has a minus in each half. The first number of the second half is that of UT1.
+// `plan .. minute M, UT1 SIGN TENTHS, in SPACE:` is taken in two halves, as each may have a minus. The first number of the second
+// half is the 1 of `UT1`.
 pub fn written(text: &[u8]) {
     let comma = bytes::scan::find(text, 0, text.len(), b',');
     minute(&text[0..comma], &text[comma..]);
