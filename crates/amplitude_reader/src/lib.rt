@@ -13,6 +13,9 @@ use amplitude_row::Row;
 use amplitude_rules::Fields;
 use amplitude_rules::Values;
 use calendar::Date;
+use plan::MAX_FRAME;
+use plan::MIN_FRAME;
+use plan::USUAL_FRAME;
 
 // The values of the symbols, or the question that was answered no: 17 and 18.
 pub enum ReadAnswer {
@@ -66,7 +69,7 @@ fn three(hundreds: u8, tens: u8, units: u8) -> u32
     hundreds as u32 * 100 + tens as u32 * 10 + units as u32
 }
 
-// What the numbers of a row show.
+// The fields of the numbers of a row.
 fn fields_from(d: Row) -> Fields
     ensures { λ r. ⌜ r ≡ fieldsFrom (rowNumbers d) ⌝ }
 {
@@ -123,7 +126,7 @@ fn sign_of(bits: u32) -> i32
     if bits == 0b101 { 1 } else { -1 }
 }
 
-// What real fields values_of.
+// The values of real fields.
 fn values_of(x: Fields, seconds: u32) -> Values
     requires { ⌜ (x .year < yearCount) × (realFields x ≡ true) ⌝ }
     ensures { λ r. ⌜ r ≡ valuesOf x seconds ⌝ }
@@ -144,18 +147,18 @@ fn length_fits(minute: u32, warning: u32, seconds: u32) -> bool
     ensures { λ r. ⌜ r ≡ lengthFits (lastOfMonth minute) warning seconds ⌝ }
 {
     if warning != 1 {
-        return seconds == 60;
+        return seconds == USUAL_FRAME;
     }
     if !Date::is_last_of_month(minute) {
-        return seconds == 60;
+        return seconds == USUAL_FRAME;
     }
-    if seconds == 59 {
+    if seconds == MIN_FRAME {
         return true;
     }
-    seconds == 61
+    seconds == MAX_FRAME
 }
 
-// Question 18, and what the numbers of a row values_of.
+// Question 18, and the values of the numbers of a row.
 fn read_row(d: Row, seconds: u32) -> ReadAnswer
     ensures { λ r. ⌜ answerOf r ≡ fieldsAnswer (rowNumbers d) seconds ⌝ }
 {

@@ -11,6 +11,9 @@ ghost use Rattle.amplitude_rules.specs.Amplitude.{digits, signBits, legalSign, 
 ghost use Rattle.amplitude_rules.specs.Writing.{warningAt, valuesAt, writeAmplitude, symbolsWritten};
 ghost use Rattle.amplitude_row.specs.Row.{rowNumbers};
 ghost use Rattle.amplitude_writer.specs.Answer.{writeRefusalNumber, writeNumbers};
+use amplitude_row::LEAP_SECOND;
+use amplitude_row::MARKER;
+use amplitude_row::ROW;
 use amplitude_row::Row;
 use amplitude_rules::Fields;
 use amplitude_rules::Values;
@@ -90,7 +93,7 @@ fn daylight(plan: Plan, minute: u32) -> u32
     codewords::daylight_number(daylight) as u32
 }
 
-// What a plan gives a minute to values_of.
+// The values that a plan gives a minute, with the caller's UT1.
 fn values_at(plan: Plan, minute: u32, sign: i32, tenths: u32) -> Values
     requires { ⌜ minute < minuteCount ⌝ }
     ensures { λ r. ⌜ r ≡ valuesAt plan minute sign tenths ⌝ }
@@ -105,7 +108,7 @@ fn values_at(plan: Plan, minute: u32, sign: i32, tenths: u32) -> Values
     }
 }
 
-// The numbers that values_of it.
+// The fields of values.
 fn fields_of(r: Values) -> Fields
     requires { ⌜ legalValues r ≡ true ⌝ }
     ensures { λ s. ⌜ s ≡ fieldsOf r ⌝ }
@@ -132,7 +135,7 @@ fn narrow(x: u32) -> u8
     x as u8
 }
 
-// The digits of what a minute fieldsOf.
+// The numbers of fields, each decimal digit a number.
 fn row_of(x: Fields) -> Row
     requires { ⌜ (x .minute < 60) × (x .hour < 24) × (x .day < 400) × (x .sign < 8) × (x .tenths ≤ 9) × (x .year < 100) × (x .leap < 2) × (x .warning < 2) × (x .daylight < 4) ⌝ }
     ensures { λ r. ⌜ rowNumbers r ≡ digits x ⌝ }
@@ -156,19 +159,19 @@ fn row_of(x: Fields) -> Row
 }
 
 // Writes the symbols of a row, and markers after second 58.
-fn put_row(row: [u8; 59], seconds: usize, out: &mut [u8])
+fn put_row(row: [u8; ROW], seconds: usize, out: &mut [u8])
     requires { ⌜ (59 ≤ seconds) × (seconds ≤ 61) × (seconds ≤ length (now out)) ⌝ }
     ensures { λ r. ⌜ now (out .exit) ≡ row ++ replicate (seconds - 59) 2 ++ drop seconds (now (out .entry)) ⌝ }
 {
     bytes::copy(&row, out);
-    if seconds < 60 {
+    if seconds <= ROW {
         return;
     }
-    out[59] = 2;
-    if seconds < 61 {
+    out[ROW] = MARKER;
+    if seconds <= LEAP_SECOND {
         return;
     }
-    out[60] = 2;
+    out[LEAP_SECOND] = MARKER;
 }
 
 // Writes the symbols of a minute.

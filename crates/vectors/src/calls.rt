@@ -1,6 +1,5 @@
 // What each letter stands for.
 use crate::listings;
-use trials::amplitude_code;
 use trials::dates;
 use trials::reading;
 use trials::sending;
@@ -15,8 +14,8 @@ pub fn call(letter: u8, text: &[u8], behind: &[u8], n: usize) {
         // given bits as one frame, as a recording
         b'o' | b'a' => reading::given(letter, text, behind, n),
         // a minute of the amplitude code written and read, given symbols read
-        b'e' => amplitude_code::written(text),
-        b'r' => amplitude_code::given(behind, n),
+        b'e' => amplitude_trials::written(text),
+        b'r' => amplitude_trials::given(behind, n),
         // a line of `station` with no line feed, with one
         b'p' => listings::alone(text, behind, n),
         b'q' => listings::listed(text, behind),

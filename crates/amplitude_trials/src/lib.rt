@@ -1,9 +1,9 @@
-// Minutes of the amplitude code written and read.
-use crate::dates;
-use crate::show;
-use amplitude::ReadAnswer;
-use amplitude::WriteAnswer;
+// What `vectors` tries of the amplitude code: minutes written and read.
+use amplitude_reader::ReadAnswer;
 use amplitude_rules::Values;
+use amplitude_writer::WriteAnswer;
+use trials::dates;
+use trials::show;
 
 // 0 and the date, UT1 sign and tenths, warning, dst_on[1] and dst_on[0], length.
 fn values(r: Values) {
@@ -18,7 +18,7 @@ fn values(r: Values) {
 // Reads the first n symbols: the refusal, or 0 and what they say.
 fn read(symbols: &[u8], n: usize) {
     if n <= symbols.len() {
-        let answer = amplitude::read_minute(&symbols[0..n]);
+        let answer = amplitude_reader::read_minute(&symbols[0..n]);
         match answer {
             ReadAnswer::Read(r) => values(r),
             ReadAnswer::BadSymbols => show::value(17),
@@ -36,7 +36,7 @@ pub fn given(digits: &[u8], n: usize) {
 
 // Writes a minute: one text has the plan and the minute, the other UT1. The refusal or 0 is printed, the number of symbols given back.
 fn write(plan: &[u8], ut1: &[u8], out: &mut [u8]) -> usize {
-    let answer = amplitude::write_minute(
+    let answer = amplitude_writer::write_minute(
         cases::plan(plan),
         cases::number(plan, 6),
         cases::signed(ut1, 1),
