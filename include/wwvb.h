@@ -1,11 +1,15 @@
 /*
- * wwvb.h: the WWVB phase code at one bit a second: recordings of time frames, written and read,
- * dates and local dates. C99 or later, C++11 or later.
+ * wwvb.h: the WWVB phase code at one bit a second: recordings of time frames, written and read;
+ * the amplitude code: one minute a call, written and read; dates and local dates. C99 or later,
+ * C++11 or later.
  * SPDX-License-Identifier: Apache-2.0
  *
  * A bit is a byte of value 0 or 1, the first sent first. A frame is one minute: 60 bits, or 59 or
  * 61 in the last minute of a month with a leap second. A minute number counts minutes from
  * 2000-01-01 00:00 UTC, leap seconds ignored.
+ *
+ * A symbol is one second of the amplitude code: a byte of value 0, 1 or 2, the first sent first,
+ * and 2 is a marker. A minute has as many symbols as its frame has bits.
  *
  * Every call takes any value of its arguments. Nothing is undefined but a buffer that breaks these
  * terms:
@@ -15,16 +19,20 @@
  * A length of 0 is an ordinary input. The library allocates nothing, keeps no state and calls no
  * other library. Any number of threads may call it at the same time.
  *
- * Each call makes its checks in the order of their numbers. The first check that fails gives the
- * refusal, and later ones are not made. WWVB_OK, 0, means that all passed.
+ * Each call makes its checks in one order, and its comment lists the refusals in that order. The
+ * first check that fails gives the refusal, and later ones are not made. WWVB_OK, 0, means that
+ * all passed.
  *
- * Which minutes to trust: in a recording read completely from a frame's first bit, a false minute
- * takes two inverted time bits in every frame, and three in each frame with place 0. Judge by a
- * minute only if the reading is complete (refusal 0) and at least one of its frames has place 0.
- * Where the start was searched for, use two frames in order: LIVE INPUT in wwvb(3) says how.
+ * Which minutes to trust, in the phase code: in a recording read completely from a frame's first
+ * bit, a false minute takes two inverted time bits in every frame, and three in each frame with
+ * place 0. Judge by a minute only if the reading is complete (refusal 0) and at least one of its
+ * frames has place 0. Where the start was searched for, use two frames in order: LIVE INPUT in
+ * wwvb(3) says how.
+ * The amplitude code has no check bits: one changed symbol may give another well-formed minute,
+ * and no refusal tells of it. It is for wall clocks. Do not judge by its minutes.
  *
- * The library has six calls. Everything else is static inline in this file: structs for plans and
- * entries, names and texts of refusals.
+ * The library has eight calls. Everything else is static inline in this file: structs for plans
+ * and entries, names and texts of refusals.
  */
 #ifndef WWVB_H
 #define WWVB_H
@@ -40,9 +48,9 @@
  * takes neither, so it is enough to compile again. Anything else raises PATCH.
  */
 #define WWVB_VERSION_MAJOR 0
-#define WWVB_VERSION_MINOR 4
+#define WWVB_VERSION_MINOR 5
 #define WWVB_VERSION_PATCH 0
-#define WWVB_VERSION "0.4.0"
+#define WWVB_VERSION "0.5.0"
 
 /* A result that must not be ignored; the compiler warns where it can. */
 #if (defined(__cplusplus) && __cplusplus >= 201703L) || \
@@ -66,7 +74,7 @@ extern "C" {
 #define WWVB_MINUTES 52596000u
 /* Frames of one written recording: 1 to WWVB_MAX_COUNT. */
 #define WWVB_MAX_COUNT 1000u
-/* Bits of a frame: at least WWVB_MIN_FRAME, at most WWVB_MAX_FRAME. */
+/* Bits of a frame, and symbols of a minute: at least WWVB_MIN_FRAME, at most WWVB_MAX_FRAME. */
 #define WWVB_MIN_FRAME 59u
 #define WWVB_MAX_FRAME 61u
 /* Bits of the longest written recording: 60 for each of 1,000 frames, and a leap second. */
@@ -78,15 +86,16 @@ extern "C" {
  * Refusals
  */
 
-/* Writing is wwvb_write_recording and wwvb_write; reading is wwvb_read_frame and
-   wwvb_read_recording, which makes checks 5 to 14 for each frame. */
+/* Writing is wwvb_write_recording, and wwvb_write_amplitude, which makes no check 2, and both by a
+   plan that is a struct. Reading is wwvb_read_frame, and wwvb_read_recording, which makes checks 5
+   to 14 for each frame. What is of the amplitude code alone says so. */
 enum wwvb_refusal {
     WWVB_OK = 0,               /* every check passed */
     WWVB_ILLEGAL_PLAN = 1,     /* writing: the plan is not legal */
-    WWVB_BAD_COUNT = 2,        /* writing: the count is not 1 to 1,000 */
+    WWVB_BAD_COUNT = 2,        /* writing a recording: the count is not 1 to 1,000 */
     WWVB_MINUTE_TOO_LARGE = 3, /* writing: the last minute is past 52,595,999;
                                   minute to date, local date: the minute is */
-    WWVB_NO_BIT_SPACE = 4,     /* writing: the buffer does not hold all the bits */
+    WWVB_NO_BIT_SPACE = 4,     /* writing: the buffer does not hold all the bits or symbols */
     WWVB_NO_ENTRY_SPACE = 5,   /* reading: fewer than 12 entry bytes are free */
     WWVB_TOO_SHORT = 6,        /* reading: fewer than 59 bits are left */
     WWVB_NOT_BITS = 7,         /* reading: one of the first 59 bytes is not 0 or 1 */
@@ -100,8 +109,14 @@ enum wwvb_refusal {
     WWVB_OUT_OF_ORDER = 14,    /* reading a recording: the minute is not one more than that of the
                                   frame before */
     WWVB_NOT_A_DATE = 15,      /* date to minute: no real date of 2000 to 2099 */
-    WWVB_BAD_SETTING = 16      /* local date: the state is above 3, the offset not -600 to -240, or
+    WWVB_BAD_SETTING = 16,     /* local date: the state is above 3, the offset not -600 to -240, or
                                   the hour not 1 to 3 */
+    WWVB_BAD_SYMBOLS = 17,     /* reading the amplitude code: not 59 to 61 symbols, a byte above 2,
+                                  a marker missing or elsewhere, or a fixed 0 that is not 0 */
+    WWVB_BAD_VALUE = 18        /* writing the amplitude code: the UT1 sign is not +1 or -1, or the
+                                  tenths are above 9; reading it: a digit, the UT1 sign or a field
+                                  is out of range, the leap-year mark does not fit the year, or the
+                                  length does not fit date and warning */
 };
 
 /* Each refusal with a sentence for people. A new refusal takes a line above and a line here. */
@@ -110,7 +125,7 @@ enum wwvb_refusal {
     X(WWVB_ILLEGAL_PLAN, "The plan is not legal.") \
     X(WWVB_BAD_COUNT, "The number of frames is not 1 to 1,000.") \
     X(WWVB_MINUTE_TOO_LARGE, "The minute is after 2099-12-31 23:59.") \
-    X(WWVB_NO_BIT_SPACE, "The buffer does not hold all the bits.") \
+    X(WWVB_NO_BIT_SPACE, "The buffer does not hold all the bits or symbols.") \
     X(WWVB_NO_ENTRY_SPACE, "The buffer has no space for another entry.") \
     X(WWVB_TOO_SHORT, "Fewer than 59 bits are left, and a frame has at least 59.") \
     X(WWVB_NOT_BITS, "A byte of the frame is neither 0 nor 1.") \
@@ -121,7 +136,9 @@ enum wwvb_refusal {
     X(WWVB_BAD_LENGTH, "The frame has the wrong number of bits, or one after bit 58 is not 0.") \
     X(WWVB_OUT_OF_ORDER, "The minute is not one more than that of the frame before.") \
     X(WWVB_NOT_A_DATE, "There is no such date from 2000 to 2099.") \
-    X(WWVB_BAD_SETTING, "The daylight state, the offset or the change hour is out of range.")
+    X(WWVB_BAD_SETTING, "The daylight state, the offset or the change hour is out of range.") \
+    X(WWVB_BAD_SYMBOLS, "The minute has the wrong number of symbols, or a wrong one.") \
+    X(WWVB_BAD_VALUE, "A value of the amplitude code is out of range or does not fit the rest.")
 
 /* The name of a refusal as it stands above, or the words unknown refusal for any other number. */
 static inline const char *wwvb_refusal_name(uint32_t refusal)
@@ -156,7 +173,7 @@ enum wwvb_kind {
     WWVB_KIND_WHOLE_YEAR = 2 /* daylight time the whole year */
 };
 
-/* The daylight states of an entry: dst_on[1] dst_on[0] as a number. */
+/* The daylight states of an entry or an amplitude reply: dst_on[1] dst_on[0] as a number. */
 enum wwvb_daylight {
     WWVB_DAYLIGHT_OFF = 0,    /* standard time */
     WWVB_DAYLIGHT_ENDS = 1,   /* daylight time ends today */
@@ -223,7 +240,8 @@ typedef struct wwvb_minute_reply {
     uint32_t minute;
 } wwvb_minute_reply;
 
-/* The refusal (0 to 4), and the number of bits written; refused, the bits are 0. */
+/* The refusal (0 to 4; amplitude code: 0, 1, 3, 4 or 18), and the number of bits written; by
+   wwvb_write_amplitude, the number of symbols. Refused, the bits are 0. */
 typedef struct wwvb_write_reply {
     size_t refusal;
     size_t bits;
@@ -237,6 +255,23 @@ typedef struct wwvb_read_reply {
     size_t used;
     size_t refusal;
 } wwvb_read_reply;
+
+/* The refusal (0, 17 or 18), and what a minute of the amplitude code says; refused, every other
+   field is 0. */
+typedef struct wwvb_amplitude_reply {
+    uint32_t refusal;
+    uint32_t year; /* 2000 to 2099 */
+    uint32_t month;
+    uint32_t day;
+    uint32_t hour;
+    uint32_t minute;     /* of the hour, 0 to 59 */
+    uint32_t weekday;    /* 0 is Saturday, 6 is Friday */
+    int32_t ut1_sign;    /* the sign of UT1 less UTC: +1 or -1 */
+    uint32_t ut1_tenths; /* its tenths of a second, 0 to 9 */
+    uint32_t warning;    /* 1 if the month ends with a leap second, of either sign; else 0 */
+    uint32_t daylight;   /* enum wwvb_daylight */
+    uint32_t length;     /* symbols of the minute: 59, 60 or 61 */
+} wwvb_amplitude_reply;
 
 /* ------------------------------------------------------------------------------------------------
  * The calls
@@ -252,7 +287,7 @@ WWVB_MUST_USE wwvb_minute_reply wwvb_date_to_minute(uint32_t year, uint32_t mont
 
 /*
  * The local date of a minute number:
- *   state   the minute's daylight state, as an entry has it, 0 to 3
+ *   state   the minute's daylight state, as an entry or an amplitude reply has it, 0 to 3
  *   offset  standard time less UTC in minutes, -600 to -240; it need not be whole hours
  *   hour    the local hour at which the clocks change on a day of state 1 or 2, 1 to 3
  * Daylight time is standard time plus 60 minutes: in state 3 all day, in state 2 from `hour` of
@@ -279,14 +314,16 @@ WWVB_MUST_USE wwvb_date_reply wwvb_local_date(uint32_t minute, uint32_t state, i
  * After the call `out` holds the bits from out[0] on, and every byte after the last bit is as
  * before. Refused, every byte of `out` is as before.
  */
-WWVB_MUST_USE wwvb_write_reply wwvb_write_recording(uint32_t kind, uint32_t spring, uint32_t autumn,
-                                                    uint32_t leap_month, int32_t leap_sign,
-                                                    uint32_t notice, uint32_t first, uint32_t count,
-                                                    uint8_t *out, size_t out_length);
+WWVB_MUST_USE wwvb_write_reply wwvb_write_recording(uint32_t kind, uint32_t spring,
+                                                    uint32_t autumn, uint32_t leap_month,
+                                                    int32_t leap_sign, uint32_t notice,
+                                                    uint32_t first, uint32_t count, uint8_t *out,
+                                                    size_t out_length);
 
 /*
- * Reads one frame, which is all of `bits`. Returns the refusal: WWVB_OK, WWVB_NO_ENTRY_SPACE (5)
- * to WWVB_BAD_MINUTE (11), or WWVB_BAD_LENGTH (13).
+ * Reads one frame, which is all of `bits`. Returns the refusal, or WWVB_OK. Refusals:
+ * WWVB_NO_ENTRY_SPACE (5), WWVB_TOO_SHORT (6), WWVB_NOT_BITS (7), WWVB_BAD_SYNC (8),
+ * WWVB_BAD_STATE (9), WWVB_BAD_NEXT_CHANGE (10), WWVB_BAD_MINUTE (11), WWVB_BAD_LENGTH (13).
  * After the call the first 12 bytes of `entry` are the frame's entry, and every byte after them is
  * as before. Refused, every byte of `entry` is as before. Bits 19, 29 and 39 may be 0 or 1. Bit
  * 19, the echo, changes the entry's echo byte alone, and bits 29 and 39 change nothing.
@@ -304,9 +341,9 @@ WWVB_MUST_USE uint32_t wwvb_read_frame(const uint8_t *bits, size_t bits_length, 
 
 /*
  * Reads the frames of a recording, which begins at a frame's first bit, until no bits are left or
- * a frame is refused. No bits at all give no entries and WWVB_OK. Refusals: those of
- * wwvb_read_frame, and WWVB_OUT_OF_ORDER (14). Bits 19, 29 and 39 of each frame may be 0 or 1 as
- * above.
+ * a frame is refused. No bits at all give no entries and WWVB_OK. Refusals, frame by frame: those
+ * of wwvb_read_frame, then WWVB_OUT_OF_ORDER (14). Bits 19, 29 and 39 of each frame may be 0 or 1
+ * as above.
  * After the call `entries` holds the entries read, 12 bytes each, from entries[0] on, and every
  * byte after them is as before, refused or not.
  * The first frame of a call is compared with no other: a call has no memory of the call before.
@@ -315,6 +352,44 @@ WWVB_MUST_USE uint32_t wwvb_read_frame(const uint8_t *bits, size_t bits_length, 
 WWVB_MUST_USE wwvb_read_reply wwvb_read_recording(const uint8_t *bits, size_t bits_length,
                                                   uint8_t *entries, size_t entries_length);
 
+/*
+ * Writes one minute in the amplitude code, a symbol a second, by a plan as above, and
+ *   minute      the minute number
+ *   ut1_sign    the sign of UT1 less UTC: +1 or -1
+ *   ut1_tenths  its tenths of a second, 0 to 9; plus 0 and minus 0 are written differently
+ * Of the plan the daylight state is sent, and a warning in every minute of the leap month; rows,
+ * leap sign and notice are not, but are checked. The length is that of the minute's frame.
+ * AMPLITUDE CODE in wwvb(3) has the seconds of each field.
+ * Refusals: WWVB_ILLEGAL_PLAN (1), WWVB_MINUTE_TOO_LARGE (3), WWVB_BAD_VALUE (18) for the UT1 sign
+ * or the tenths, WWVB_NO_BIT_SPACE (4). An `out_length` of WWVB_MAX_FRAME is always enough.
+ * After the call `out` holds the symbols from out[0] on, and every byte after the last symbol is
+ * as before. Refused, every byte of `out` is as before.
+ */
+WWVB_MUST_USE wwvb_write_reply wwvb_write_amplitude(uint32_t kind, uint32_t spring,
+                                                    uint32_t autumn, uint32_t leap_month,
+                                                    int32_t leap_sign, uint32_t notice,
+                                                    uint32_t minute, int32_t ut1_sign,
+                                                    uint32_t ut1_tenths, uint8_t *out,
+                                                    size_t out_length);
+
+/*
+ * Reads one minute of the amplitude code, which is all of `symbols`. Refusals: WWVB_BAD_SYMBOLS
+ * (17), asked of the whole minute, then WWVB_BAD_VALUE (18). They mean:
+ *   17  the length is not 59 to 61; a byte is above 2; a marker is missing, at seconds 59 and 60
+ *       too, or stands elsewhere; a second that is always 0 is not 0
+ *   18  a decimal digit is above 9; the UT1 sign is neither 101 nor 010; the minute is above 59,
+ *       the hour above 23, or the year has no such day; the leap-year mark does not fit the year;
+ *       the length does not fit date and warning
+ * With the warning the last minute of a month has 59 or 61 symbols, never 60; every other minute
+ * has 60. Daylight state and warning are not checked against any plan. Two digits of the year are
+ * sent, and the year given is 2000 to 2099.
+ * A minute that wwvb_write_amplitude writes is read as sent: it has the date, the daylight state
+ * and the length of the same minute's frame. But the code has no check bits: one changed symbol
+ * may give another well-formed minute.
+ */
+WWVB_MUST_USE wwvb_amplitude_reply wwvb_read_amplitude(const uint8_t *symbols,
+                                                       size_t symbols_length);
+
 /* ------------------------------------------------------------------------------------------------
  * Plans and entries as structs
  *
@@ -322,7 +397,7 @@ WWVB_MUST_USE wwvb_read_reply wwvb_read_recording(const uint8_t *bits, size_t bi
  * (which is not legal until it has rows), and set fields by name.
  */
 
-/* A plan, as wwvb_write_recording takes it in six numbers. */
+/* A plan, as wwvb_write_recording and wwvb_write_amplitude take it in six numbers. */
 typedef struct wwvb_plan {
     uint32_t kind;
     uint32_t spring;
@@ -359,6 +434,19 @@ WWVB_MUST_USE static inline wwvb_write_reply wwvb_write(const wwvb_plan *plan, u
 {
     return wwvb_write_recording(plan->kind, plan->spring, plan->autumn, plan->leap_month,
                                 plan->leap_sign, plan->notice, first, count, out, out_length);
+}
+
+/* wwvb_write_amplitude by a plan that is a struct. */
+WWVB_MUST_USE static inline wwvb_write_reply wwvb_write_amplitude_by_plan(const wwvb_plan *plan,
+                                                                          uint32_t minute,
+                                                                          int32_t ut1_sign,
+                                                                          uint32_t ut1_tenths,
+                                                                          uint8_t *out,
+                                                                          size_t out_length)
+{
+    return wwvb_write_amplitude(plan->kind, plan->spring, plan->autumn, plan->leap_month,
+                                plan->leap_sign, plan->notice, minute, ut1_sign, ut1_tenths, out,
+                                out_length);
 }
 
 /* An entry; the fields are those of enum wwvb_entry_byte. */
