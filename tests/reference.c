@@ -414,3 +414,133 @@ unsigned ref_read(const uint8_t *bits, size_t length, uint8_t *entries, size_t s
     }
     return 0;
 }
+
+/* ---- the amplitude code */
+
+/* What stands at a second: a marker, a fixed 0, or a part of a field. */
+enum field {
+    MARKER, ZERO, MINUTE, HOUR, DAY, UT1_SIGN, UT1_TENTHS, YEAR, LEAP_YEAR, WARNING, DAYLIGHT, FIELDS
+};
+
+/* Table 1, ten seconds a row, with second 60 at the end; the number is what a 1 there is worth. */
+static const struct {
+    enum field field;
+    unsigned worth;
+} table_1[61] = {
+    {MARKER, 0}, {MINUTE, 40}, {MINUTE, 20}, {MINUTE, 10}, {ZERO, 0},
+    {MINUTE, 8}, {MINUTE, 4}, {MINUTE, 2}, {MINUTE, 1}, {MARKER, 0},
+
+    {ZERO, 0}, {ZERO, 0}, {HOUR, 20}, {HOUR, 10}, {ZERO, 0},
+    {HOUR, 8}, {HOUR, 4}, {HOUR, 2}, {HOUR, 1}, {MARKER, 0},
+
+    {ZERO, 0}, {ZERO, 0}, {DAY, 200}, {DAY, 100}, {ZERO, 0},
+    {DAY, 80}, {DAY, 40}, {DAY, 20}, {DAY, 10}, {MARKER, 0},
+
+    {DAY, 8}, {DAY, 4}, {DAY, 2}, {DAY, 1}, {ZERO, 0},
+    {ZERO, 0}, {UT1_SIGN, 4}, {UT1_SIGN, 2}, {UT1_SIGN, 1}, {MARKER, 0},
+
+    {UT1_TENTHS, 8}, {UT1_TENTHS, 4}, {UT1_TENTHS, 2}, {UT1_TENTHS, 1}, {ZERO, 0},
+    {YEAR, 80}, {YEAR, 40}, {YEAR, 20}, {YEAR, 10}, {MARKER, 0},
+
+    {YEAR, 8}, {YEAR, 4}, {YEAR, 2}, {YEAR, 1}, {ZERO, 0},
+    {LEAP_YEAR, 1}, {WARNING, 1}, {DAYLIGHT, 2}, {DAYLIGHT, 1}, {MARKER, 0},
+
+    {MARKER, 0},
+};
+
+#define PLUS 5  /* 101 */
+#define MINUS 2 /* 010 */
+
+/* The unit of the decimal digit that a worth belongs to: 1, 10 or 100. */
+static unsigned unit_of(unsigned worth)
+{
+    return worth >= 100 ? 100 : worth >= 10 ? 10 : 1;
+}
+
+unsigned ref_write_amplitude(const struct ref_plan *p, uint32_t minute, int32_t ut1_sign,
+                             uint32_t ut1_tenths, uint8_t *out, size_t space, size_t *symbols)
+{
+    unsigned value[FIELDS] = {0}, length, s;
+    struct ref_date d;
+
+    if (!legal(p))
+        return 1;
+    if (minute >= MINUTES)
+        return 3;
+    if ((ut1_sign != 1 && ut1_sign != -1) || ut1_tenths > 9)
+        return 18;
+    length = length_for(leap(p, minute), minute);
+    if (length > space)
+        return 4;
+    d = date_of(minute);
+    value[MINUTE] = d.minute;
+    value[HOUR] = d.hour;
+    value[DAY] = day_of(d.year, d.month, d.day) - day_of(d.year, 1, 1) + 1;
+    value[UT1_SIGN] = ut1_sign > 0 ? PLUS : MINUS;
+    value[UT1_TENTHS] = ut1_tenths;
+    value[YEAR] = d.year - 2000;
+    value[LEAP_YEAR] = leap_year(d.year);
+    value[WARNING] = leap(p, minute) != 0;
+    value[DAYLIGHT] = ref_daylight(p, minute);
+    for (s = 0; s < length; s++) {
+        unsigned worth = table_1[s].worth, unit = unit_of(worth);
+        unsigned digit = value[table_1[s].field] / unit % 10;
+
+        out[s] = table_1[s].field == MARKER ? 2 : (digit & worth / unit) != 0;
+    }
+    *symbols = length;
+    return 0;
+}
+
+unsigned ref_read_amplitude(const uint8_t *symbols, size_t length, struct ref_amplitude *read)
+{
+    unsigned digits[FIELDS][101] = {{0}}, value[FIELDS], s, f; /* digits by their unit */
+    struct ref_date d = {0, 1, 0, 0, 0, 0};
+    const unsigned *months;
+    int last;
+
+    if (length < 59 || length > 61)
+        return 17;
+    for (s = 0; s < length; s++) {
+        unsigned most = table_1[s].field == MARKER ? 2 : table_1[s].field == ZERO ? 0 : 1;
+
+        if (symbols[s] > most || (most == 2 && symbols[s] != 2))
+            return 17;
+    }
+
+    for (s = 0; s < length; s++) {
+        unsigned worth = table_1[s].worth, unit = unit_of(worth);
+
+        digits[table_1[s].field][unit] += symbols[s] * (worth / unit);
+    }
+    for (f = MINUTE; f < FIELDS; f++) {
+        if (digits[f][1] > 9 || digits[f][10] > 9 || digits[f][100] > 9)
+            return 18;
+        value[f] = digits[f][1] + digits[f][10] * 10 + digits[f][100] * 100;
+    }
+    if (value[UT1_SIGN] != PLUS && value[UT1_SIGN] != MINUS)
+        return 18;
+    d.year = 2000 + value[YEAR];
+    d.hour = value[HOUR];
+    d.minute = value[MINUTE];
+    if (d.minute > 59 || d.hour > 23)
+        return 18;
+    if (value[DAY] < 1 || value[DAY] > (leap_year(d.year) ? 366u : 365u))
+        return 18;
+    if (value[LEAP_YEAR] != (unsigned)leap_year(d.year))
+        return 18;
+    months = month_lengths[leap_year(d.year)];
+    for (d.day = value[DAY]; d.day > months[d.month - 1]; d.month++)
+        d.day -= months[d.month - 1];
+    d.weekday = day_of(d.year, d.month, d.day) % 7;
+    last = d.hour == 23 && d.minute == 59 && d.day == months[d.month - 1];
+    if (last && value[WARNING] ? length == 60 : length != 60)
+        return 18;
+    read->date = d;
+    read->ut1_sign = value[UT1_SIGN] == PLUS ? 1 : -1;
+    read->ut1_tenths = value[UT1_TENTHS];
+    read->warning = value[WARNING];
+    read->daylight = value[DAYLIGHT];
+    read->length = (uint32_t)length;
+    return 0;
+}

@@ -1,6 +1,8 @@
 /*
- * The WWVB phase code in plain C, written from documents 01 and 02 alone and for reading, not for speed: its own tables,
- * its own calendar, and correction by trying the 32 candidates. It shares nothing with the library but these documents.
+ * The WWVB phase code and amplitude code in plain C, written from documents 01 and 02, and Table 1
+ * of source document 000, alone, and for reading, not for speed: its own tables, its own calendar,
+ * and correction by trying the 32 candidates. It shares nothing with the library but these
+ * documents.
  */
 #ifndef REFERENCE_H
 #define REFERENCE_H
@@ -18,6 +20,13 @@ struct ref_date {
     uint32_t year, month, day, hour, minute, weekday;
 };
 
+/* A minute of the amplitude code, as it was read. */
+struct ref_amplitude {
+    struct ref_date date;
+    int32_t ut1_sign;
+    uint32_t ut1_tenths, warning, daylight, length;
+};
+
 /* Each gives the number of the first check that fails, or 0. What is pointed to is written only with 0. The entries, bits
    and buffer of a recording's reading are those of the frames before the refused one. */
 unsigned ref_minute_to_date(uint32_t minute, struct ref_date *date);
@@ -26,6 +35,9 @@ unsigned ref_local_date(uint32_t minute, uint32_t state, int32_t offset, uint32_
 unsigned ref_write(const struct ref_plan *plan, uint32_t first, uint32_t count, uint8_t *out, size_t space, size_t *bits);
 unsigned ref_read_frame(const uint8_t *bits, size_t length, uint8_t *entry, size_t space);
 unsigned ref_read(const uint8_t *bits, size_t length, uint8_t *entries, size_t space, size_t *count, size_t *used);
+unsigned ref_write_amplitude(const struct ref_plan *plan, uint32_t minute, int32_t ut1_sign,
+                             uint32_t ut1_tenths, uint8_t *out, size_t space, size_t *symbols);
+unsigned ref_read_amplitude(const uint8_t *symbols, size_t length, struct ref_amplitude *read);
 
 /* The entry that a legal plan, a minute, the place inverted in its frame (0: none) and the echo byte give, nothing of it
    read. */
