@@ -419,7 +419,8 @@ unsigned ref_read(const uint8_t *bits, size_t length, uint8_t *entries, size_t s
 
 /* What stands at a second: a marker, a fixed 0, or a part of a field. */
 enum field {
-    MARKER, ZERO, MINUTE, HOUR, DAY, UT1_SIGN, UT1_TENTHS, YEAR, LEAP_YEAR, WARNING, DAYLIGHT, FIELDS
+    MARKER, ZERO, MINUTE, HOUR, DAY, UT1_SIGN, UT1_TENTHS, YEAR, LEAP_YEAR, WARNING, DAYLIGHT,
+    FIELDS
 };
 
 /* Table 1, ten seconds a row, with second 60 at the end; the number is what a 1 there is worth. */
