@@ -20,12 +20,13 @@
 #define ROOM (WWVB_MAX_RECORDING + 4096)
 #define MINUTES WWVB_MINUTES
 
-enum call { TO_DATE, TO_MINUTE, LOCAL, WRITE, ONE, READ, CALLS };
-#define NUMBERS 17
+enum call { TO_DATE, TO_MINUTE, LOCAL, WRITE, ONE, READ, WRITE_AMPLITUDE, READ_AMPLITUDE, CALLS };
+#define NUMBERS 19
 
 static const char *const call_names[CALLS] = {
     "wwvb_minute_to_date", "wwvb_date_to_minute", "wwvb_local_date",
     "wwvb_write_recording", "wwvb_read_frame", "wwvb_read_recording",
+    "wwvb_write_amplitude", "wwvb_read_amplitude",
 };
 
 /* The numbers that a call can give. */
@@ -39,7 +40,9 @@ static int can_give(enum call c, unsigned n)
     case LOCAL: return n == 0 || n == 3 || n == 16;
     case WRITE: return n <= 4;
     case ONE: return n == 0 || (n >= 5 && n <= 13);
-    default: return n == 0 || (n >= 5 && n <= 14);
+    case READ: return n == 0 || (n >= 5 && n <= 14);
+    case WRITE_AMPLITUDE: return n == 0 || n == 1 || n == 3 || n == 4 || n == 18;
+    default: return n == 0 || n == 17 || n == 18;
     }
 }
 
@@ -278,6 +281,52 @@ static void try_read(const uint8_t *bits, size_t length, size_t space)
         lengths[READ][out_buffer.at[i * WWVB_ENTRY_SIZE + WWVB_ENTRY_LENGTH]]++;
 }
 
+static void try_write_amplitude(const struct ref_plan *p, uint32_t minute, int32_t sign,
+                                uint32_t tenths, size_t space)
+{
+    size_t symbols = 0;
+    unsigned refusal;
+    wwvb_write_reply r;
+
+    lay_noise(&out_buffer, space);
+    refusal = ref_write_amplitude(p, minute, sign, tenths, out_buffer.want, space, &symbols);
+    r = wwvb_write_amplitude(p->kind, p->spring, p->autumn, p->leap_month, p->leap_sign, p->notice,
+                             minute, sign, tenths, out_buffer.at, space);
+    count(WRITE_AMPLITUDE, r.refusal);
+    if (r.refusal != refusal)
+        fail(WRITE_AMPLITUDE, "the number");
+    if (r.bits != symbols)
+        fail(WRITE_AMPLITUDE, "the number of symbols");
+    check(WRITE_AMPLITUDE, &out_buffer, "the buffer");
+    if (refusal == 0)
+        lengths[WRITE_AMPLITUDE][symbols]++;
+}
+
+static unsigned try_read_amplitude(const uint8_t *symbols, size_t length)
+{
+    struct ref_amplitude a = {{0, 0, 0, 0, 0, 0}, 0, 0, 0, 0, 0};
+    unsigned refusal;
+    wwvb_amplitude_reply r;
+
+    lay(&in_buffer, symbols, length);
+    refusal = ref_read_amplitude(in_buffer.want, length, &a);
+    r = wwvb_read_amplitude(in_buffer.at, length);
+    count(READ_AMPLITUDE, r.refusal);
+    if (r.refusal != refusal)
+        fail(READ_AMPLITUDE, "the number");
+    if (r.year != a.date.year || r.month != a.date.month || r.day != a.date.day
+        || r.hour != a.date.hour || r.minute != a.date.minute || r.weekday != a.date.weekday)
+        fail(READ_AMPLITUDE, "the date");
+    if (r.ut1_sign != a.ut1_sign || r.ut1_tenths != a.ut1_tenths)
+        fail(READ_AMPLITUDE, "UT1");
+    if (r.warning != a.warning || r.daylight != a.daylight || r.length != a.length)
+        fail(READ_AMPLITUDE, "the warning, the daylight state or the length");
+    check(READ_AMPLITUDE, &in_buffer, "the symbols");
+    if (refusal == 0)
+        lengths[READ_AMPLITUDE][length]++;
+    return refusal;
+}
+
 /* ---- inputs */
 
 static uint32_t month_end(uint32_t month) /* the last minute of a month, counted from January 2000 */
@@ -430,6 +479,124 @@ static size_t damage(uint8_t *bits, size_t length, size_t at)
     return length;
 }
 
+/* ---- inputs of the amplitude code */
+
+static const unsigned markers[8] = {0, 9, 19, 29, 39, 49, 59, 60};
+
+/* The fields of a minute, each as its seconds hold it, in or out of range. */
+struct fields {
+    unsigned minute[2], hour[2], day[3], sign, tenths, year[2], leap_year, warning, daylight;
+};
+
+/* A number in so many decimal digits, the first the highest. */
+static void set_digits(unsigned *digits, unsigned n, uint32_t number)
+{
+    while (n--) {
+        digits[n] = number % 10;
+        number /= 10;
+    }
+}
+
+/* The symbols of the fields, with markers at both of the last seconds. */
+static void put_fields(const struct fields *f, uint8_t symbols[61])
+{
+    unsigned i;
+
+    memset(symbols, 0, 61);
+    for (i = 0; i < 8; i++)
+        symbols[markers[i]] = 2;
+    set_word(symbols + 1, f->minute[0], 3);
+    set_word(symbols + 5, f->minute[1], 4);
+    set_word(symbols + 12, f->hour[0], 2);
+    set_word(symbols + 15, f->hour[1], 4);
+    set_word(symbols + 22, f->day[0], 2);
+    set_word(symbols + 25, f->day[1], 4);
+    set_word(symbols + 30, f->day[2], 4);
+    set_word(symbols + 36, f->sign, 3);
+    set_word(symbols + 40, f->tenths, 4);
+    set_word(symbols + 45, f->year[0], 4);
+    set_word(symbols + 50, f->year[1], 4);
+    symbols[55] = (uint8_t)f->leap_year;
+    symbols[56] = (uint8_t)f->warning;
+    set_word(symbols + 57, f->daylight, 2);
+}
+
+/* Fields that are right, of a day, from 1, of a year, from 2000. */
+static struct fields fields_of(uint32_t year, uint32_t day, uint32_t hour, uint32_t minute)
+{
+    struct fields f;
+
+    set_digits(f.minute, 2, minute);
+    set_digits(f.hour, 2, hour);
+    set_digits(f.day, 3, day);
+    set_digits(f.year, 2, year);
+    f.sign = one_in(2) ? 5 : 2;
+    f.tenths = below(10);
+    f.leap_year = year % 4 == 0;
+    f.warning = below(2);
+    f.daylight = below(4);
+    return f;
+}
+
+/* The last day of a month, from 0, as the day of a year, from 2000. */
+static uint32_t last_day(uint32_t year, uint32_t month)
+{
+    struct ref_date d = {0, 1, 1, 0, 0, 0};
+    uint32_t first = 0;
+
+    d.year = 2000 + year;
+    ref_date_to_minute(&d, &first);
+    return (month_end(year * 12 + month) - first) / 1440 + 1;
+}
+
+static struct fields random_fields(void)
+{
+    uint32_t year = below(100);
+    struct fields f;
+
+    if (one_in(3)) /* the last day of a month, or one beside it */
+        f = fields_of(year, last_day(year, below(12)) + below(3) - 1, one_in(4) ? below(24) : 23,
+                      one_in(4) ? below(60) : 59);
+    else
+        f = fields_of(year, 1 + below(365), below(24), below(60));
+    while (one_in(3))
+        switch (below(9)) {
+        case 0: set_digits(f.minute, 2, 55 + below(25)); break;
+        case 1: set_digits(f.hour, 2, 19 + below(21)); break;
+        case 2: set_digits(f.day, 3, one_in(2) ? below(3) : 364 + below(5)); break;
+        case 3: f.sign = below(8); break;
+        case 4: f.tenths = 8 + below(8); break;
+        case 5: f.leap_year = below(2); break;
+        case 6: f.year[below(2)] = below(16); break;
+        case 7: f.day[1 + below(2)] = below(16); break;
+        default: *(one_in(2) ? &f.minute[1] : &f.hour[1]) = below(16); break;
+        }
+    return f;
+}
+
+/* One damage to a minute's symbols; gives their new number. */
+static size_t spoil_symbols(uint8_t *symbols, size_t length)
+{
+    size_t i = length ? below((uint32_t)length) : 0;
+
+    switch (below(7)) {
+    case 0: symbols[i] ^= 1; break;
+    case 1: symbols[i] = below(3); break;
+    case 2: symbols[i] = (uint8_t)rnd(); break;
+    case 3: symbols[markers[below(8)]] = below(3); break;
+    case 4: return below(71);
+    case 5: return 59 + below(3);
+    default: /* a symbol lost, or one more */
+        if (one_in(2)) {
+            memmove(symbols + i, symbols + i + 1, 70 - i);
+            return length ? length - 1 : 0;
+        }
+        memmove(symbols + i + 1, symbols + i, 70 - i);
+        return length + 1;
+    }
+    return length;
+}
+
 /* ---- random cases */
 
 static void random_dates(void)
@@ -535,6 +702,49 @@ static void random_read(void)
     default: break;
     }
     try_read(scratch, length, space);
+}
+
+static int32_t random_sign(void)
+{
+    return one_in(16) ? (int32_t)odd_number(1) : one_in(2) ? 1 : -1;
+}
+
+static void random_write_amplitude(void)
+{
+    struct ref_plan p = random_plan();
+    uint32_t minute = random_minute(&p);
+    int32_t sign = random_sign();
+    uint32_t tenths = one_in(16) ? odd_number(9) : below(10);
+    size_t space = one_in(3) ? below(71) : one_in(2) ? 59 + below(3) : 61;
+
+    if (one_in(8))
+        spoil(&p);
+    if (one_in(16))
+        minute = odd_number(MINUTES - 1);
+    try_write_amplitude(&p, minute, sign, tenths, space);
+}
+
+/* A minute as it is written, or of random fields; whole or spoiled. */
+static void random_read_amplitude(void)
+{
+    uint8_t symbols[72];
+    size_t length = 60;
+
+    memset(symbols, 2, sizeof symbols);
+    if (one_in(2)) {
+        struct ref_plan p = random_plan();
+        uint32_t minute = random_minute(&p);
+        if (ref_write_amplitude(&p, minute, one_in(2) ? 1 : -1, below(10), symbols, 61, &length))
+            abort();
+    } else {
+        struct fields f = random_fields();
+        put_fields(&f, symbols);
+        if (one_in(2))
+            length = 59 + below(3);
+    }
+    while (one_in(3) && length < 71)
+        length = spoil_symbols(symbols, length);
+    try_read_amplitude(symbols, length);
 }
 
 /* ---- boundary cases */
@@ -889,6 +1099,211 @@ static void boundary_recordings(void)
     try_read(bits, 0, 12);
 }
 
+/* Writing in the amplitude code: rows, kinds, leap months and signs; UT1 signs and tenths; every
+   length of the buffer; and two checks that would fail, to see their order. */
+static void boundary_write_amplitude(void)
+{
+    static const uint32_t rows[] = {0, 1, 24, 25, 48, 49, 0xffffffffu};
+    static const int32_t signs[] = {
+        INT32_MIN, INT32_MIN + 1, -65537, -65535, -257, -256, -255, -129, -128, -127, -2, -1,
+        0, 1, 2, 5, 127, 128, 255, 256, 257, 65535, 65537, INT32_MAX - 1, INT32_MAX,
+    };
+    static const uint32_t tenths[] = {
+        0, 1, 2, 3, 4, 5, 6, 7, 8, 9, 10, 11, 15, 16, 25, 255, 256, 265, 65536,
+        0x7fffffffu, 0x80000000u, 0xfffffffeu, 0xffffffffu,
+    };
+    static const uint32_t minutes[] = {
+        0, 1, 59, 60, 1439, 1440, 6573598, 6573599, 6573600, MINUTES - 1, MINUTES, MINUTES + 1,
+        67108863, 0x7fffffffu, 0x80000000u, 0xffffffffu,
+    };
+    struct ref_plan p = {0, 10, 37, 149, 1, 0};
+    uint32_t kind, month, m;
+    int32_t sign;
+    size_t i, k, space;
+
+    for (kind = 0; kind <= 4; kind++)
+        for (i = 0; i < sizeof rows / sizeof *rows; i++)
+            for (k = 0; k < sizeof rows / sizeof *rows; k++) {
+                struct ref_plan q = {0, 0, 0, 0, 0, 0};
+                q.kind = kind < 4 ? kind : 0xffffffffu;
+                q.spring = rows[i];
+                q.autumn = rows[k];
+                try_write_amplitude(&q, below(MINUTES), 1, 0, 61);
+                q.notice = 1 + below(2);
+                try_write_amplitude(&q, below(MINUTES), -1, 9, 61);
+            }
+    /* each month's end, by every leap sign */
+    for (month = 0; month <= 1201; month++)
+        for (sign = -2; sign <= 2; sign++) {
+            struct ref_plan q = {1, 0, 0, 0, 0, 0};
+            uint32_t end = month_end(month < 1200 ? month : 1199);
+            q.leap_month = month;
+            q.leap_sign = sign;
+            q.notice = month % 3;
+            for (m = end - 1; m <= end + 1; m++)
+                for (space = 58; space <= 62; space++)
+                    try_write_amplitude(&q, m, month % 2 ? 1 : -1, month % 10, space);
+        }
+    for (i = 0; i < sizeof signs / sizeof *signs; i++)
+        for (k = 0; k < sizeof tenths / sizeof *tenths; k++)
+            for (m = 0; m < sizeof minutes / sizeof *minutes; m++)
+                try_write_amplitude(&p, minutes[m], signs[i], tenths[k], below(2) * 61);
+    for (sign = -1; sign <= 1; sign++)
+        for (space = 0; space <= 70; space++) {
+            p.leap_sign = sign;
+            p.leap_month = sign ? 149 : 0;
+            try_write_amplitude(&p, 6573599, 1, 3, space);
+            try_write_amplitude(&p, 6573599, 1, 10, space);
+            try_write_amplitude(&p, 6573599, 0, 3, space);
+            try_write_amplitude(&p, MINUTES, 1, 3, space);
+            try_write_amplitude(&p, MINUTES, 1, 10, space);
+            p.notice = 2;
+            try_write_amplitude(&p, 6573599, 1, 3, space);
+            try_write_amplitude(&p, MINUTES, 0, 10, space);
+            p.notice = 0;
+        }
+    /* a day of every minute, and every day */
+    for (m = 0; m < 1440; m++)
+        try_write_amplitude(&p, 6573600 - 1440 + m, 1, m % 10, 61);
+    for (m = 0; m < MINUTES / 1440; m++)
+        try_write_amplitude(&p, m * 1440 + m % 1440, -1, m % 10, 61);
+}
+
+/* Reading the amplitude code: every length, every symbol at other values, every value of every
+   field. */
+static void boundary_read_amplitude(void)
+{
+    static const uint8_t values[] = {0, 1, 2, 3, 4, 127, 128, 130, 254, 255};
+    uint8_t symbols[72];
+    struct fields f;
+    uint32_t year, day, month, hour, minute, n, k;
+    size_t length, i, v;
+
+    /* the last minute of June 2012 and the one before, with the warning and without: all lengths,
+       and each symbol, and each two of them, at other values */
+    for (n = 0; n < 4; n++) {
+        f = fields_of(12, 182, 23, 58 + n % 2);
+        f.warning = n / 2;
+        memset(symbols, 2, sizeof symbols);
+        put_fields(&f, symbols);
+        for (length = 0; length <= 70; length++)
+            try_read_amplitude(symbols, length);
+        for (length = 59; length <= 61; length++)
+            for (i = 0; i < 61; i++)
+                for (v = 0; v < sizeof values; v++) {
+                    uint8_t was = symbols[i];
+                    symbols[i] = values[v];
+                    try_read_amplitude(symbols, length);
+                    for (k = 0; k < 61 && v < 4; k++) {
+                        uint8_t was_too = symbols[k];
+                        symbols[k] ^= 1;
+                        try_read_amplitude(symbols, length);
+                        symbols[k] = was_too;
+                    }
+                    symbols[i] = was;
+                }
+    }
+    /* every value of minute and hour, of the UT1 sign and the tenths */
+    for (n = 0; n < 8 * 16 * 4 * 16; n++) {
+        f = fields_of(n % 100, 1 + n % 365, 0, 0);
+        f.minute[0] = n & 7;
+        f.minute[1] = n >> 3 & 15;
+        f.hour[0] = n >> 7 & 3;
+        f.hour[1] = n >> 9 & 15;
+        f.warning = 0;
+        put_fields(&f, symbols);
+        try_read_amplitude(symbols, 60);
+    }
+    for (n = 0; n < 8 * 16 * 2 * 2 * 4; n++) {
+        f = fields_of(n % 100, 59, 23, 59);
+        f.sign = n & 7;
+        f.tenths = n >> 3 & 15;
+        f.leap_year = n >> 7 & 1;
+        f.warning = n >> 8 & 1;
+        f.daylight = n >> 9 & 3;
+        put_fields(&f, symbols);
+        for (length = 59; length <= 61; length++)
+            try_read_amplitude(symbols, length);
+    }
+    /* every value of the year with either mark, and of the day in eight years */
+    for (n = 0; n < 256 * 2; n++)
+        for (day = 365; day <= 366; day++) {
+            f = fields_of(0, day, 12, 0);
+            f.year[0] = n >> 4 & 15;
+            f.year[1] = n & 15;
+            f.leap_year = n >> 8;
+            put_fields(&f, symbols);
+            try_read_amplitude(symbols, 60);
+        }
+    for (n = 0; n < 4 * 16 * 16; n++)
+        for (k = 0; k < 8; k++) {
+            static const uint32_t years[8] = {0, 1, 2, 3, 4, 96, 98, 99};
+            f = fields_of(years[k], 1, 12, 0);
+            f.day[0] = n >> 8;
+            f.day[1] = n >> 4 & 15;
+            f.day[2] = n & 15;
+            put_fields(&f, symbols);
+            try_read_amplitude(symbols, 60);
+        }
+    /* the last minute of every month, and those beside it by a minute, an hour or a day: all
+       lengths, with the warning and without */
+    for (year = 0; year < 100; year++)
+        for (month = 0; month < 12; month++)
+            for (n = 0; n < 12 * 6; n++) {
+                day = last_day(year, month) + n / 6 % 3 - 1;
+                hour = n / 18 % 2 ? 22 : 23;
+                minute = n / 36 ? 58 : 59;
+                f = fields_of(year, day, hour, minute);
+                f.warning = n % 2;
+                put_fields(&f, symbols);
+                try_read_amplitude(symbols, 59 + n % 6 / 2);
+            }
+}
+
+/* By one plan and minute both codes of the library read to the same date, daylight state and
+   length: the last minute of each month in 59 and in 61 seconds, and as many minutes in 60. */
+static void boundary_codes(void)
+{
+    uint8_t symbols[WWVB_MAX_FRAME], bits[WWVB_MAX_FRAME], entry[WWVB_ENTRY_SIZE];
+    uint32_t month;
+    int32_t sign;
+
+    for (month = 0; month < 1200; month++)
+        for (sign = -1; sign <= 1; sign++) {
+            struct ref_plan p = random_plan();
+            uint32_t minute = sign ? month_end(month) : below(MINUTES), tenths = below(10);
+            wwvb_write_reply w, v;
+            wwvb_amplitude_reply a;
+            wwvb_date_reply d;
+            wwvb_entry e;
+            p.leap_sign = sign;
+            p.leap_month = sign ? month : 0;
+            w = wwvb_write_amplitude(p.kind, p.spring, p.autumn, p.leap_month, p.leap_sign,
+                                     p.notice, minute, sign ? sign : 1, tenths, symbols,
+                                     sizeof symbols);
+            v = wwvb_write_recording(p.kind, p.spring, p.autumn, p.leap_month, p.leap_sign,
+                                     p.notice, minute, 1, bits, sizeof bits);
+            count(WRITE_AMPLITUDE, w.refusal);
+            if (w.refusal != 0 || v.refusal != 0)
+                fail(WRITE_AMPLITUDE, "the number for a legal plan");
+            if (w.bits != v.bits || w.bits != (size_t)(60 + sign))
+                fail(WRITE_AMPLITUDE, "the length in the two codes");
+            a = wwvb_read_amplitude(symbols, w.bits);
+            count(READ_AMPLITUDE, a.refusal);
+            if (a.refusal != 0 || wwvb_read_frame(bits, v.bits, entry, sizeof entry) != 0)
+                fail(READ_AMPLITUDE, "the number for a minute that the library wrote");
+            e = wwvb_entry_at(entry, 0);
+            d = wwvb_minute_to_date(e.minute);
+            if (a.year != d.year || a.month != d.month || a.day != d.day || a.hour != d.hour
+                || a.minute != d.minute || a.weekday != d.weekday || a.daylight != e.daylight
+                || a.length != e.length)
+                fail(READ_AMPLITUDE, "the reading of the other code");
+            if (a.ut1_sign != (sign ? sign : 1) || a.ut1_tenths != tenths
+                || a.warning != (e.leap != WWVB_LEAP_NONE))
+                fail(READ_AMPLITUDE, "UT1 or the warning as sent");
+        }
+}
+
 /* ---- the bench table of document 01, with the row of document 02 that takes the place of 12 */
 
 static void expect(int ok, const char *what)
@@ -1035,6 +1450,9 @@ int main(int argc, char **argv)
         boundary_frames();
         boundary_echoes();
         boundary_inversions();
+        boundary_write_amplitude();
+        boundary_read_amplitude();
+        boundary_codes();
     }
     boundary_recordings();
     boundary = cases;
@@ -1044,6 +1462,8 @@ int main(int argc, char **argv)
         random_write();
         random_one();
         random_read();
+        random_write_amplitude();
+        random_read_amplitude();
     }
     printf("compare: %lu boundary cases, %lu random cases, seed %" PRIu64 "\n", boundary, cases - boundary, first_seed);
     return report() ? 1 : 0;
