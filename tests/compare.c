@@ -730,7 +730,7 @@ static void random_read_amplitude(void)
     uint8_t symbols[72];
     size_t length = 60;
 
-    memset(symbols, 2, sizeof symbols);
+    memset(symbols, (int)below(3), sizeof symbols);
     if (one_in(2)) {
         struct ref_plan p = random_plan();
         uint32_t minute = random_minute(&p);
@@ -1184,10 +1184,12 @@ static void boundary_read_amplitude(void)
     for (n = 0; n < 4; n++) {
         f = fields_of(12, 182, 23, 58 + n % 2);
         f.warning = n / 2;
-        memset(symbols, 2, sizeof symbols);
-        put_fields(&f, symbols);
-        for (length = 0; length <= 70; length++)
-            try_read_amplitude(symbols, length);
+        for (k = 0; k < 4; k++) { /* what stands after the symbols */
+            memset(symbols, (int)k, sizeof symbols);
+            put_fields(&f, symbols);
+            for (length = 0; length <= 70; length++)
+                try_read_amplitude(symbols, length);
+        }
         for (length = 59; length <= 61; length++)
             for (i = 0; i < 61; i++)
                 for (v = 0; v < sizeof values; v++) {
@@ -1227,8 +1229,9 @@ static void boundary_read_amplitude(void)
     }
     /* every value of the year with either mark, and of the day in eight years */
     for (n = 0; n < 256 * 2; n++)
-        for (day = 365; day <= 366; day++) {
-            f = fields_of(0, day, 12, 0);
+        for (k = 0; k < 10; k++) {
+            static const uint32_t days[5] = {1, 59, 60, 365, 366};
+            f = fields_of(0, days[k / 2], k % 2 * 12, 0);
             f.year[0] = n >> 4 & 15;
             f.year[1] = n & 15;
             f.leap_year = n >> 8;
@@ -1236,9 +1239,9 @@ static void boundary_read_amplitude(void)
             try_read_amplitude(symbols, 60);
         }
     for (n = 0; n < 4 * 16 * 16; n++)
-        for (k = 0; k < 8; k++) {
+        for (k = 0; k < 16; k++) {
             static const uint32_t years[8] = {0, 1, 2, 3, 4, 96, 98, 99};
-            f = fields_of(years[k], 1, 12, 0);
+            f = fields_of(years[k / 2], 1, k % 2 * 12, 0);
             f.day[0] = n >> 8;
             f.day[1] = n >> 4 & 15;
             f.day[2] = n & 15;
