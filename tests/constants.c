@@ -32,6 +32,25 @@ static size_t frame_of(uint32_t kind, uint32_t spring, uint32_t autumn, uint32_t
     return w.bits;
 }
 
+/* Writes a minute in the amplitude code, with a leap second in June 2012 or with sign 0 none;
+   returns its symbols. */
+static size_t minute_of(int32_t leap_sign, uint32_t minute, int32_t ut1_sign, uint32_t ut1_tenths)
+{
+    wwvb_write_reply w = wwvb_write_amplitude(0, 10, 37, leap_sign ? 149 : 0, leap_sign, 0, minute,
+                                              ut1_sign, ut1_tenths, bits, sizeof bits);
+
+    return w.bits;
+}
+
+/* The refusal of a minute of 60 symbols in which one stands at a second. */
+static uint32_t with_symbol(uint8_t symbol, size_t at)
+{
+    size_t n = minute_of(0, 6578970, 1, 4);
+
+    bits[at] = symbol;
+    return wwvb_read_amplitude(bits, n).refusal;
+}
+
 /* The refusal of a frame of 60 bits in which a word, first bit first, stands from a bit on. */
 static uint32_t with_word(const char *word, size_t at)
 {
@@ -73,6 +92,15 @@ static void limits(void)
     CHECK(n == WWVB_MIN_FRAME);
     CHECK(wwvb_read_frame(bits, WWVB_MIN_FRAME - 1, entries, sizeof entries) == WWVB_TOO_SHORT);
     CHECK(wwvb_read_frame(bits, WWVB_MIN_FRAME, entries, sizeof entries) == WWVB_OK);
+
+    /* the longest and the shortest minute of the amplitude code */
+    CHECK(minute_of(1, JUNE_ENDS, 1, 0) == WWVB_MAX_FRAME);
+    CHECK(wwvb_read_amplitude(bits, WWVB_MAX_FRAME).length == WWVB_MAX_FRAME);
+    CHECK(wwvb_read_amplitude(bits, WWVB_MAX_FRAME + 1).refusal == WWVB_BAD_SYMBOLS);
+    CHECK(minute_of(-1, JUNE_ENDS, 1, 0) == WWVB_MIN_FRAME);
+    CHECK(wwvb_read_amplitude(bits, WWVB_MIN_FRAME).length == WWVB_MIN_FRAME);
+    CHECK(wwvb_read_amplitude(bits, WWVB_MIN_FRAME - 1).refusal == WWVB_BAD_SYMBOLS);
+    n = frame_of(1, 0, 0, 149, -1, 0, JUNE_ENDS);
 
     /* an entry takes so many bytes, and no fewer */
     memset(entries, 99, sizeof entries);
@@ -118,6 +146,77 @@ static void refusals(void)
     CHECK(wwvb_local_date(0, 0, -601, 2).refusal == WWVB_BAD_SETTING);
     CHECK(wwvb_local_date(0, 4, -600, 2).refusal == WWVB_BAD_SETTING);
     CHECK(wwvb_local_date(0, 0, -600, 4).refusal == WWVB_BAD_SETTING);
+}
+
+/* The checks of the amplitude code in their order: most refused calls would fail later ones too. */
+static void amplitude_refusals(void)
+{
+    wwvb_write_reply w;
+    wwvb_amplitude_reply a;
+    size_t n, i;
+
+    memset(bits, 99, 70);
+    w = wwvb_write_amplitude(3, 0, 0, 0, 0, 0, 52596000, 0, 10, bits, 0);
+    CHECK(w.refusal == WWVB_ILLEGAL_PLAN && w.bits == 0);
+    w = wwvb_write_amplitude(1, 0, 0, 0, 0, 0, 52596000, 0, 10, bits, 0);
+    CHECK(w.refusal == WWVB_MINUTE_TOO_LARGE && w.bits == 0);
+    w = wwvb_write_amplitude(1, 0, 0, 0, 0, 0, 52595999, 0, 9, bits, 59);
+    CHECK(w.refusal == WWVB_BAD_VALUE && w.bits == 0);
+    w = wwvb_write_amplitude(1, 0, 0, 0, 0, 0, 52595999, 1, 10, bits, 59);
+    CHECK(w.refusal == WWVB_BAD_VALUE && w.bits == 0);
+    w = wwvb_write_amplitude(1, 0, 0, 0, 0, 0, 52595999, -1, 9, bits, 59);
+    CHECK(w.refusal == WWVB_NO_BIT_SPACE && w.bits == 0);
+    for (i = 0; i < 70; i++)
+        CHECK(bits[i] == 99);
+    w = wwvb_write_amplitude(1, 0, 0, 0, 0, 0, 52595999, -1, 9, bits, 60);
+    CHECK(w.refusal == WWVB_OK && w.bits == 60);
+    for (i = 60; i < 70; i++)
+        CHECK(bits[i] == 99);
+
+    CHECK(with_symbol(0, 4) == WWVB_OK);
+    CHECK(with_symbol(1, 4) == WWVB_BAD_SYMBOLS);  /* a fixed 0 */
+    CHECK(with_symbol(0, 19) == WWVB_BAD_SYMBOLS); /* a marker */
+    CHECK(with_symbol(2, 20) == WWVB_BAD_SYMBOLS);
+    CHECK(with_symbol(3, 58) == WWVB_BAD_SYMBOLS);
+    CHECK(with_symbol(1, 1) == WWVB_BAD_VALUE);  /* minute 70 */
+    CHECK(with_symbol(0, 36) == WWVB_BAD_VALUE); /* UT1 sign 001 */
+    CHECK(with_symbol(0, 55) == WWVB_BAD_VALUE); /* no leap year, and it is 2012 */
+    n = minute_of(0, 6578970, 1, 4);
+    CHECK(wwvb_read_amplitude(bits, n - 1).refusal == WWVB_BAD_VALUE);
+    bits[1] = 1;
+    bits[59] = 1;
+    a = wwvb_read_amplitude(bits, n);
+    CHECK(a.refusal == WWVB_BAD_SYMBOLS && a.year == 0 && a.ut1_sign == 0 && a.length == 0);
+    bits[59] = 2;
+    a = wwvb_read_amplitude(bits, n);
+    CHECK(a.refusal == WWVB_BAD_VALUE && a.year == 0 && a.ut1_sign == 0 && a.length == 0);
+}
+
+/* Every field of an amplitude reply, and the symbols of 2012-07-04 17:30. */
+static void amplitude(void)
+{
+    static const char text[] = "201100000200010011120001010002011000101201000000120010010112";
+    wwvb_amplitude_reply a;
+    size_t n = minute_of(0, 6578970, 1, 4), i;
+
+    CHECK(n == 60);
+    for (i = 0; i < 60; i++)
+        CHECK(bits[i] == text[i] - '0');
+    a = wwvb_read_amplitude(bits, n);
+    CHECK(a.refusal == WWVB_OK && a.year == 2012 && a.month == 7 && a.day == 4);
+    CHECK(a.hour == 17 && a.minute == 30 && a.weekday == 4);
+    CHECK(a.ut1_sign == 1 && a.ut1_tenths == 4 && a.warning == 0 && a.length == 60);
+    CHECK(a.daylight == WWVB_DAYLIGHT_ON);
+    n = minute_of(-1, JUNE_ENDS, -1, 0);
+    a = wwvb_read_amplitude(bits, n);
+    CHECK(a.refusal == WWVB_OK && a.month == 6 && a.day == 30 && a.hour == 23 && a.minute == 59);
+    CHECK(a.ut1_sign == -1 && a.ut1_tenths == 0 && a.warning == 1 && a.length == 59);
+    n = minute_of(0, 6412320, 1, 0);
+    CHECK(wwvb_read_amplitude(bits, n).daylight == WWVB_DAYLIGHT_BEGINS);
+    n = minute_of(0, 6755040, 1, 0);
+    CHECK(wwvb_read_amplitude(bits, n).daylight == WWVB_DAYLIGHT_ENDS);
+    n = minute_of(0, 6756480, 1, 0);
+    CHECK(wwvb_read_amplitude(bits, n).daylight == WWVB_DAYLIGHT_OFF);
 }
 
 /* Every byte of an entry with a value that its neighbours do not have. */
@@ -203,7 +302,28 @@ static void structs(void)
     CHECK(a.refusal == WWVB_OK && a.bits == 179 && b.bits == a.bits);
     CHECK(memcmp(bits, other, a.bits) == 0);
     CHECK(wwvb_write(&plan, JUNE_ENDS - 1, 3, other, 178).refusal == WWVB_NO_BIT_SPACE);
+
+    a = wwvb_write_amplitude_by_plan(&plan, JUNE_ENDS, -1, 7, other, sizeof other);
+    b = wwvb_write_amplitude(0, 3, 44, 149, -1, 1, JUNE_ENDS, -1, 7, bits, sizeof bits);
+    CHECK(a.refusal == WWVB_OK && a.bits == 59 && b.refusal == WWVB_OK && b.bits == 59);
+    CHECK(memcmp(bits, other, a.bits) == 0);
+    CHECK(wwvb_write_amplitude_by_plan(&plan, JUNE_ENDS, -1, 7, other, 58).refusal ==
+          WWVB_NO_BIT_SPACE);
+    CHECK(wwvb_write_amplitude_by_plan(&plan, 0, 0, 7, other, 61).refusal == WWVB_BAD_VALUE);
+    CHECK(wwvb_write_amplitude_by_plan(&plan, 0, 1, 10, other, 61).refusal == WWVB_BAD_VALUE);
+
+    /* each field of the plan on its own */
+    plan = wwvb_plan_by_rows(3, 44);
+    CHECK(wwvb_write_amplitude_by_plan(&plan, 0, 1, 0, other, sizeof other).refusal == WWVB_OK);
+    plan.notice = 2;
+    CHECK(wwvb_write_amplitude_by_plan(&plan, 0, 1, 0, other, 61).refusal == WWVB_ILLEGAL_PLAN);
+    plan = wwvb_plan_by_rows(25, 44);
+    CHECK(wwvb_write_amplitude_by_plan(&plan, 0, 1, 0, other, 61).refusal == WWVB_ILLEGAL_PLAN);
+    plan = wwvb_plan_by_rows(3, 24);
+    CHECK(wwvb_write_amplitude_by_plan(&plan, 0, 1, 0, other, 61).refusal == WWVB_ILLEGAL_PLAN);
+    plan = wwvb_plan_by_rows(3, 44);
     plan.kind = WWVB_KIND_NONE;
+    CHECK(wwvb_write_amplitude_by_plan(&plan, 0, 1, 0, other, 61).refusal == WWVB_ILLEGAL_PLAN);
     CHECK(wwvb_write(&plan, 0, 1, other, sizeof other).refusal == WWVB_ILLEGAL_PLAN);
 
     /* 2012-03-11 07:00 UTC is 03:00 in New York: the clocks have just changed at 2 */
@@ -233,7 +353,8 @@ static void names(void)
         "WWVB_OK", "WWVB_ILLEGAL_PLAN", "WWVB_BAD_COUNT", "WWVB_MINUTE_TOO_LARGE", "WWVB_NO_BIT_SPACE",
         "WWVB_NO_ENTRY_SPACE", "WWVB_TOO_SHORT", "WWVB_NOT_BITS", "WWVB_BAD_SYNC", "WWVB_BAD_STATE",
         "WWVB_BAD_NEXT_CHANGE", "WWVB_BAD_MINUTE", "unknown refusal", "WWVB_BAD_LENGTH",
-        "WWVB_OUT_OF_ORDER", "WWVB_NOT_A_DATE", "WWVB_BAD_SETTING", "unknown refusal",
+        "WWVB_OUT_OF_ORDER", "WWVB_NOT_A_DATE", "WWVB_BAD_SETTING", "WWVB_BAD_SYMBOLS",
+        "WWVB_BAD_VALUE", "unknown refusal",
     };
     uint32_t i, j, known = sizeof name / sizeof *name - 1;
 
@@ -262,6 +383,8 @@ int main(void)
 {
     limits();
     refusals();
+    amplitude_refusals();
+    amplitude();
     fields();
     numbers();
     structs();
