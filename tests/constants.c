@@ -148,7 +148,7 @@ static void refusals(void)
     CHECK(wwvb_local_date(0, 0, -600, 4).refusal == WWVB_BAD_SETTING);
 }
 
-/* The checks of the amplitude code in their order: most refused calls would fail later ones too. */
+/* The checks of the amplitude code in their order: most refused calls would fail later ones. */
 static void amplitude_refusals(void)
 {
     wwvb_write_reply w;
