@@ -22,7 +22,7 @@
 
 static const struct codec library = {
     "library", wwvb_write_recording, wwvb_read_recording, wwvb_minute_to_date, wwvb_minute_to_date, wwvb_date_to_minute,
-    wwvb_local_date,
+    wwvb_local_date, wwvb_write_amplitude, wwvb_read_amplitude,
 };
 
 #define CODEC(name) extern const struct codec name;
@@ -153,6 +153,52 @@ static size_t make_minutes(const struct codec *c, uint32_t n)
     return FRAMES;
 }
 
+/* The minutes that are written in the amplitude code are those above, each with other UT1. */
+typedef wwvb_write_reply write_call(uint32_t, uint32_t, uint32_t, uint32_t, int32_t, uint32_t,
+                                    uint32_t, int32_t, uint32_t, uint8_t *, size_t);
+
+static wwvb_write_reply write_minute(write_call *call, uint32_t i, uint8_t *out)
+{
+    return call(0, 10, 37, 149, 1, 0, dates[i].number, i % 2 ? 1 : -1, i % 10, out,
+                WWVB_MAX_FRAME);
+}
+
+static uint8_t symbols[2][WWVB_MAX_FRAME];
+
+static size_t write_minutes(const struct codec *c, uint32_t n)
+{
+    uint32_t i;
+    write_call *call = c->write_amplitude;
+
+    (void)n;
+    for (i = 0; i < FRAMES; i++) {
+        wwvb_write_reply r = write_minute(call, i, symbols[0]);
+        sink += (uint32_t)r.bits + r.refusal + symbols[0][i % 59];
+    }
+    return FRAMES;
+}
+
+/* The first of them are read, as they were written beforehand. */
+#define MINUTES 1000u
+static struct {
+    uint8_t symbols[WWVB_MAX_FRAME];
+    size_t length;
+} minutes[MINUTES];
+
+static size_t read_minutes(const struct codec *c, uint32_t n)
+{
+    uint32_t i, k;
+    wwvb_amplitude_reply (*call)(const uint8_t *, size_t) = c->read_amplitude;
+
+    (void)n;
+    for (i = 0, k = 0; i < FRAMES; i++, k = k + 1 < MINUTES ? k + 1 : 0) {
+        wwvb_amplitude_reply r = call(minutes[k].symbols, minutes[k].length);
+        sink += r.refusal + r.year + r.month + r.day + r.hour + r.minute + r.weekday;
+        sink += (uint32_t)r.ut1_sign + r.ut1_tenths + r.warning + r.daylight + r.length;
+    }
+    return FRAMES;
+}
+
 /* The rows in which the library takes longer than some plain codec. */
 static char slower[2000];
 
@@ -252,6 +298,35 @@ static void date_all(void)
         }
 }
 
+/* Writes and reads each minute by each codec, the library first, and keeps those that are read. */
+static void amplitude_all(void)
+{
+    uint32_t i;
+    size_t k;
+
+    for (i = 0; i < FRAMES; i++) {
+        wwvb_write_reply w[2];
+        wwvb_amplitude_reply r[2];
+
+        for (k = 0; k < CODECS; k++) {
+            size_t j = k > 0;
+
+            memset(symbols[j], 9, sizeof symbols[j]);
+            w[j] = write_minute(codecs[k]->write_amplitude, i, symbols[j]);
+            if (w[j].refusal || w[j].bits != w[0].bits
+                || memcmp(symbols[0], symbols[j], sizeof symbols[0]))
+                differ(codecs[k], "writing the amplitude code");
+            r[j] = codecs[k]->read_amplitude(symbols[j], w[j].bits);
+            if (r[j].refusal || memcmp(&r[0], &r[j], sizeof r[0]))
+                differ(codecs[k], "reading the amplitude code");
+        }
+        if (i < MINUTES) {
+            memcpy(minutes[i].symbols, symbols[0], sizeof symbols[0]);
+            minutes[i].length = w[0].bits;
+        }
+    }
+}
+
 /* What is read: the plan's kind, its leap month and sign, the first minute, and whether one bit of each frame is inverted. */
 static const struct {
     const char *what;
@@ -305,6 +380,10 @@ int main(void)
     measure("the same, C for speed alone", make_dates_fast, 0);
     measure("date to minute", make_minutes, 0);
     measure("local date", make_local_dates, 0);
+
+    amplitude_all();
+    measure("write a minute, amplitude", write_minutes, 0);
+    measure("read a minute, amplitude", read_minutes, 0);
     printf("\nThe library takes longer than some plain codec in: %s.\n", slower[0] ? slower + 2 : "no row");
     return sink == 1; /* keeps the sums from being dropped */
 }

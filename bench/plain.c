@@ -1,7 +1,8 @@
 /*
  * Straightforward code: parity by masks and the compiler's parity of a word, correction by a table of syndromes, code
  * words by tables and their inverses, bits moved one at a time, the calendar by cycles of four years, and the plan
- * asked anew for each frame.
+ * asked anew for each frame. The amplitude code is written for speed: symbols are checked eight at
+ * a time and moved a digit at a time.
  *
  * PLAIN names the codec that this file makes and PLAIN_LABEL is its column's heading, so that one program can hold it
  * several times, each built by another compiler or with other flags.
@@ -386,6 +387,159 @@ static wwvb_read_reply read_recording(const uint8_t *bits, size_t bits_length, u
     return r;
 }
 
+/* ---- the amplitude code */
+
+/* A minute with 0 in every field: what stands at the fixed seconds. */
+static const uint8_t blank[61] = {
+    2, 0, 0, 0, 0, 0, 0, 0, 0, 2, 0, 0, 0, 0, 0, 0, 0, 0, 0, 2, 0, 0, 0, 0, 0, 0, 0, 0, 0, 2,
+    0, 0, 0, 0, 0, 0, 0, 0, 0, 2, 0, 0, 0, 0, 0, 0, 0, 0, 0, 2, 0, 0, 0, 0, 0, 0, 0, 0, 0, 2, 2,
+};
+
+/* The bits of a symbol that are as in `blank`: all, or in a field all but the lowest. */
+#define A 0xff
+#define F 0xfe
+static const uint8_t fixed[61] = {
+    A, F, F, F, A, F, F, F, F, A, A, A, F, F, A, F, F, F, F, A, A, A, F, F, A, F, F, F, F, A,
+    F, F, F, F, A, A, F, F, F, A, F, F, F, F, A, F, F, F, F, A, F, F, F, F, A, F, F, F, F, A, A,
+};
+#undef A
+#undef F
+
+/* The four symbols of a digit. */
+static const uint8_t digits[16][4] = {
+    {0, 0, 0, 0}, {0, 0, 0, 1}, {0, 0, 1, 0}, {0, 0, 1, 1}, {0, 1, 0, 0}, {0, 1, 0, 1},
+    {0, 1, 1, 0}, {0, 1, 1, 1}, {1, 0, 0, 0}, {1, 0, 0, 1}, {1, 0, 1, 0}, {1, 0, 1, 1},
+    {1, 1, 0, 0}, {1, 1, 0, 1}, {1, 1, 1, 0}, {1, 1, 1, 1},
+};
+
+static wwvb_write_reply write_amplitude(uint32_t kind, uint32_t spring, uint32_t autumn,
+                                        uint32_t leap_month, int32_t leap_sign, uint32_t notice,
+                                        uint32_t minute, int32_t ut1_sign, uint32_t ut1_tenths,
+                                        uint8_t *out, size_t out_length)
+{
+    struct plan p = {kind, spring, autumn, leap_month, leap_sign, notice};
+    wwvb_write_reply r = {0, 0};
+    struct day d;
+    uint32_t day, hour, rest, of_year;
+    unsigned leap, length;
+
+    if (!is_legal(&p))
+        r.refusal = WWVB_ILLEGAL_PLAN;
+    else if (minute >= WWVB_MINUTES)
+        r.refusal = WWVB_MINUTE_TOO_LARGE;
+    else if ((ut1_sign != 1 && ut1_sign != -1) || ut1_tenths > 9)
+        r.refusal = WWVB_BAD_VALUE;
+    if (r.refusal)
+        return r;
+    day = minute / 1440;
+    d = day_at(day);
+    leap = leap_of(&p, &d);
+    length = length_of(leap, minute, &d);
+    if (length > out_length) {
+        r.refusal = WWVB_NO_BIT_SPACE;
+        return r;
+    }
+    hour = minute % 1440 / 60;
+    rest = minute % 60;
+    of_year = d.of_year + 1;
+    memcpy(out, blank, 59);
+    memcpy(out + 1, digits[rest / 10] + 1, 3);
+    memcpy(out + 5, digits[rest % 10], 4);
+    memcpy(out + 12, digits[hour / 10] + 2, 2);
+    memcpy(out + 15, digits[hour % 10], 4);
+    memcpy(out + 22, digits[of_year / 100] + 2, 2);
+    memcpy(out + 25, digits[of_year / 10 % 10], 4);
+    memcpy(out + 30, digits[of_year % 10], 4);
+    memcpy(out + 36, digits[ut1_sign > 0 ? 5 : 2] + 1, 3);
+    memcpy(out + 40, digits[ut1_tenths], 4);
+    memcpy(out + 45, digits[d.year / 10], 4);
+    memcpy(out + 50, digits[d.year % 10], 4);
+    out[55] = d.year % 4 == 0;
+    out[56] = leap != 0;
+    memcpy(out + 57, digits[daylight_of(&p, day, &d)] + 2, 2);
+    if (length > 59)
+        out[59] = 2;
+    if (length > 60)
+        out[60] = 2;
+    r.bits = length;
+    return r;
+}
+
+/* Whether eight symbols from a second on have what is fixed there. */
+static int fits(const uint8_t *symbols, size_t at)
+{
+    uint64_t got, want, mask;
+
+    memcpy(&got, symbols + at, 8);
+    memcpy(&want, blank + at, 8);
+    memcpy(&mask, fixed + at, 8);
+    return ((got ^ want) & mask) == 0;
+}
+
+/* The digit of four symbols that are 0 or 1. */
+static uint32_t digit(const uint8_t *s)
+{
+    return (uint32_t)s[0] << 3 | (uint32_t)s[1] << 2 | (uint32_t)s[2] << 1 | s[3];
+}
+
+static wwvb_amplitude_reply read_amplitude(const uint8_t *s, size_t length)
+{
+    wwvb_amplitude_reply r = {0, 0, 0, 0, 0, 0, 0, 0, 0, 0, 0, 0};
+    uint32_t minute_units, hour_units, day_tens, day_units, tenths, year_tens, year_units;
+    uint32_t minute, hour, day, year, month, sign, last;
+    const uint16_t *starts;
+
+    r.refusal = WWVB_BAD_SYMBOLS;
+    if (length < 59 || length > 61)
+        return r;
+    if (!fits(s, 0) || !fits(s, 8) || !fits(s, 16) || !fits(s, 24) || !fits(s, 32) || !fits(s, 40)
+        || !fits(s, 48) || !fits(s, 51))
+        return r;
+    if ((length > 59 && s[59] != 2) || (length > 60 && s[60] != 2))
+        return r;
+
+    r.refusal = WWVB_BAD_VALUE;
+    minute_units = digit(s + 5);
+    hour_units = digit(s + 15);
+    day_tens = digit(s + 25);
+    day_units = digit(s + 30);
+    tenths = digit(s + 40);
+    year_tens = digit(s + 45);
+    year_units = digit(s + 50);
+    sign = (uint32_t)s[36] << 2 | (uint32_t)s[37] << 1 | s[38];
+    if (minute_units > 9 || hour_units > 9 || day_tens > 9 || day_units > 9 || tenths > 9
+        || year_tens > 9 || year_units > 9 || (sign != 5 && sign != 2))
+        return r;
+    minute = ((uint32_t)s[1] << 2 | (uint32_t)s[2] << 1 | s[3]) * 10 + minute_units;
+    hour = ((uint32_t)s[12] << 1 | s[13]) * 10 + hour_units;
+    day = ((uint32_t)s[22] << 1 | s[23]) * 100 + day_tens * 10 + day_units - 1;
+    year = year_tens * 10 + year_units;
+    starts = month_starts[year % 4 == 0];
+    if (minute > 59 || hour > 23 || day >= starts[12] || s[55] != (year % 4 == 0))
+        return r;
+    month = day / 31;
+    if (day >= starts[month + 1])
+        month++;
+    last = s[56] && minute == 59 && hour == 23 && day + 1 == starts[month + 1];
+    if (last ? length == 60 : length != 60)
+        return r;
+
+    r.refusal = WWVB_OK;
+    r.year = 2000 + year;
+    r.month = month + 1;
+    r.day = day - starts[month] + 1;
+    r.hour = hour;
+    r.minute = minute;
+    r.weekday = (year_start(year) + day) % 7;
+    r.ut1_sign = sign == 5 ? 1 : -1;
+    r.ut1_tenths = tenths;
+    r.warning = s[56];
+    r.daylight = (uint32_t)s[57] << 1 | s[58];
+    r.length = (uint32_t)length;
+    return r;
+}
+
 const struct codec PLAIN = {
     PLAIN_LABEL, write_recording, read_recording, minute_to_date, fast_minute_to_date, date_to_minute, local_date,
+    write_amplitude, read_amplitude,
 };

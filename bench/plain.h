@@ -20,6 +20,11 @@ struct codec {
     wwvb_date_reply (*fast_minute_to_date)(uint32_t minute); /* written for speed alone; of the library, the same call */
     wwvb_minute_reply (*date_to_minute)(uint32_t year, uint32_t month, uint32_t day, uint32_t hour, uint32_t minute);
     wwvb_date_reply (*local_date)(uint32_t minute, uint32_t state, int32_t offset, uint32_t hour);
+    wwvb_write_reply (*write_amplitude)(uint32_t kind, uint32_t spring, uint32_t autumn,
+                                        uint32_t leap_month, int32_t leap_sign, uint32_t notice,
+                                        uint32_t minute, int32_t ut1_sign, uint32_t ut1_tenths,
+                                        uint8_t *out, size_t out_length);
+    wwvb_amplitude_reply (*read_amplitude)(const uint8_t *symbols, size_t symbols_length);
 };
 
 extern const struct codec PLAIN;

@@ -551,14 +551,16 @@ static uint32_t last_day(uint32_t year, uint32_t month)
 
 static struct fields random_fields(void)
 {
-    uint32_t year = below(100);
+    uint32_t year = below(100), day = 1 + below(365), hour = below(24), minute = below(60);
     struct fields f;
 
-    if (one_in(3)) /* the last day of a month, or one beside it */
-        f = fields_of(year, last_day(year, below(12)) + below(3) - 1, one_in(4) ? below(24) : 23,
-                      one_in(4) ? below(60) : 59);
-    else
-        f = fields_of(year, 1 + below(365), below(24), below(60));
+    if (one_in(3)) { /* the last day of a month, or one beside it */
+        day = last_day(year, below(12));
+        day += below(3) - 1;
+        hour = one_in(4) ? hour : 23;
+        minute = one_in(4) ? minute : 59;
+    }
+    f = fields_of(year, day, hour, minute);
     while (one_in(3))
         switch (below(9)) {
         case 0: set_digits(f.minute, 2, 55 + below(25)); break;
@@ -567,9 +569,9 @@ static struct fields random_fields(void)
         case 3: f.sign = below(8); break;
         case 4: f.tenths = 8 + below(8); break;
         case 5: f.leap_year = below(2); break;
-        case 6: f.year[below(2)] = below(16); break;
-        case 7: f.day[1 + below(2)] = below(16); break;
-        default: *(one_in(2) ? &f.minute[1] : &f.hour[1]) = below(16); break;
+        case 6: f.year[one_in(2)] = 8 + below(8); break;
+        case 7: f.day[1 + one_in(2)] = 8 + below(8); break;
+        default: *(one_in(2) ? &f.minute[1] : &f.hour[1]) = 8 + below(8); break;
         }
     return f;
 }
@@ -733,8 +735,8 @@ static void random_read_amplitude(void)
     memset(symbols, (int)below(3), sizeof symbols);
     if (one_in(2)) {
         struct ref_plan p = random_plan();
-        uint32_t minute = random_minute(&p);
-        if (ref_write_amplitude(&p, minute, one_in(2) ? 1 : -1, below(10), symbols, 61, &length))
+        uint32_t minute = random_minute(&p), tenths = below(10);
+        if (ref_write_amplitude(&p, minute, one_in(2) ? 1 : -1, tenths, symbols, 61, &length))
             abort();
     } else {
         struct fields f = random_fields();
