@@ -374,7 +374,7 @@ WWVB_MUST_USE wwvb_write_reply wwvb_write_amplitude(uint32_t kind, uint32_t spri
 
 /*
  * Reads one minute of the amplitude code, which is all of `symbols`. Refusals: WWVB_BAD_SYMBOLS
- * (17), asked of the whole minute, then WWVB_BAD_VALUE (18). They mean:
+ * (17), checked over the whole minute, then WWVB_BAD_VALUE (18):
  *   17  the length is not 59 to 61; a byte is above 2; a marker is missing, at seconds 59 and 60
  *       too, or stands elsewhere; a second that is always 0 is not 0
  *   18  a decimal digit is above 9; the UT1 sign is neither 101 nor 010; the minute is above 59,
