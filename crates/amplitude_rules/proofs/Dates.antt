@@ -6,9 +6,9 @@ use mathlib.Core.Path.{_≡_, refl, sym, ap, _∙_}
 use native.Mathlib.Nat.{add-sub-cancel}
 use native.Mathlib.Omega.{arith}
 use lib.ListN.{take, drop}
-use Rattle.bits.specs.Bits.{bit, bits}
+use Rattle.bits.specs.Bits.{pick, bit, bits}
 use Rattle.symbols.specs.Symbols.{fill}
-use Rattle.gregorian.specs.Gregorian.{firstYear, monthsOf, before, yearOfDay}
+use Rattle.gregorian.specs.Gregorian.{firstYear, leapYear, monthsOf, before, yearOfDay}
 use Rattle.gregorian.proofs.Months.{Placed, placed, year-place, month-place}
 use Rattle.calendar.specs.Calendar.{minuteCount, dateFrom, dateAt}
 use Rattle.amplitude_rules.specs.declared.Values.{Values}
@@ -39,13 +39,13 @@ low-bit : (x : ℕ) → x / 2 ^ 0 % 2 ≡ x % 2
 low-bit x = omega arith
 
 pub flag-seconds : FlagSeconds
-unfolding symbols fill table1 bits bit digits fieldsOf
+unfolding symbols fill table1 bits bit digits fieldsOf leapMark
 flag-seconds r h =
     let l = legal r h in
     let y = yearOfDay (r .minute / 1440) .index in
     let e : dateAt (r .minute) .year ≡ firstYear + y = unfold dateAt dateFrom in refl in
     rw e
-    (next (one-bit (leapMark (firstYear + y)) (mark-small (firstYear + y)))
+    (next (one-bit (pick (leapYear (firstYear + y)) 1 0) (mark-small (firstYear + y)))
     (next (one-bit (r .warning) (omega (arith, l .warning)))
     (next (high-bit (r .daylight) (omega (arith, l .daylight)))
     (next (low-bit (r .daylight)) refl))))

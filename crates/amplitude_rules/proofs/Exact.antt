@@ -1,13 +1,14 @@
 -- Accepted symbols are those of the values that are read.
 -- Assumes nothing.
 use Prim.Native.Nat.{ℕ, suc, _+_, _-_, _*_, _/_, _%_, _≤_, _<_}
-use mathlib.Core.Bool.{true, _&&_}
+use mathlib.Core.Bool.{Bool, true, false, _&&_, _||_}
+use mathlib.Core.Logic.{_⊎_, inl, inr, _≢_}
 use mathlib.Core.List.{List, [], _∷_}
 use mathlib.Core.Path.{_≡_, refl, sym, ap, _∙_}
 use native.Mathlib.Omega.{arith}
 use lib.Dec.{leb, eqb}
 use lib.ListN.{length, take, drop, getD, replicate, length-drop, take-append-drop}
-use borrow.Author.Tests.{leb-true, eqb-true}
+use borrow.Author.Tests.{leb-true, eqb-true, ne-eqb}
 use Rattle.bits.specs.Bits.{all}
 use Rattle.bits.proofs.Tests.{both-true}
 use Rattle.symbols.specs.Symbols.{fill, fits, numbers}
@@ -17,14 +18,14 @@ use Rattle.gregorian.proofs.Walk.{before-mono, Lies, walk-at}
 use Rattle.gregorian.proofs.Months.{years-at}
 use Rattle.gregorian.proofs.Years.{length-years, days-of-years}
 use Rattle.calendar.specs.Calendar.{minuteCount, lastOfMonth}
-use Rattle.plan.specs.Plan.{minFrame, maxFrame}
+use Rattle.plan.specs.Plan.{minFrame, usualFrame, maxFrame}
 use Rattle.questions.specs.Questions.{asked}
 use Rattle.questions.proofs.Laws.{Verdict, all-yes, first-no, verdict, answer, yes-at}
 use Rattle.amplitude_rules.specs.declared.Fields.{Fields}
 use Rattle.amplitude_rules.specs.declared.Values.{Values}
 use Rattle.amplitude_rules.specs.Amplitude.{table1, digits, lengthFits, legalValues, fieldsOf, symbols}
 use Rattle.amplitude_rules.specs.Reading.{isMark, layoutFits, numbersIn, fieldsFrom, fieldsIn, valuesOf, valuesIn, decimalDigits, realFields, fieldsFit, readQuestions, refused, accepted, readAmplitude}
-use Rattle.amplitude_rules.specs.Theorems.{ReadExactly, SymbolsApart}
+use Rattle.amplitude_rules.specs.Theorems.{ReadExactly, SymbolsApart, LengthOf, AcceptedLengths}
 use Rattle.amplitude_rules.proofs.Digits.{digits-fields}
 use Rattle.amplitude_rules.proofs.Facts.{Legal, legal, legal-values, Real, real, sign-forth}
 use Rattle.amplitude_rules.proofs.ReadBack.{read-values}
@@ -178,3 +179,32 @@ read-exactly s q = (
 pub symbols-apart : SymbolsApart
 symbols-apart q r lq lr other same =
     other (values-of-answer q r (sym (read-values q (legal q lq)) ∙ ap readAmplitude same ∙ read-values r (legal r lr)))
+
+-- ---- what is accepted
+
+or : (a b : Bool) → (a || b) ≡ true → (a ≡ true) ⊎ (b ≡ true)
+or true b h = inl refl
+or false b h = inr h
+
+module _ (r : Values) (fits : lengthFits (lastOfMonth (r .minute)) (r .warning) (r .seconds) ≡ true) where
+  warned : lastOfMonth (r .minute) ≡ true → r .warning ≡ 1 → (r .seconds ≡ 59) ⊎ (r .seconds ≡ 61)
+  unfolding lengthFits
+  warned last one = go (or (eqb (r .seconds) minFrame) (eqb (r .seconds) maxFrame) (rw (last, one) at fits))
+    where
+      go : (eqb (r .seconds) minFrame ≡ true) ⊎ (eqb (r .seconds) maxFrame ≡ true) → (r .seconds ≡ 59) ⊎ (r .seconds ≡ 61)
+      go (inl e) = inl (eqb-true (r .seconds) minFrame e)
+      go (inr e) = inr (eqb-true (r .seconds) maxFrame e)
+
+  other : (lastOfMonth (r .minute) ≡ false) ⊎ (r .warning ≢ 1) → r .seconds ≡ 60
+  unfolding lengthFits
+  other (inl h) = eqb-true (r .seconds) usualFrame (rw h at fits)
+  other (inr n) = eqb-true (r .seconds) usualFrame (rw (ne-eqb (r .warning) 1 n, and-no (lastOfMonth (r .minute))) at fits)
+    where
+      and-no : (b : Bool) → (b && false) ≡ false
+      and-no true = refl
+      and-no false = refl
+
+pub accepted-lengths : AcceptedLengths
+accepted-lengths s r h =
+    let l = legal r (read-exactly s r .0 h .0) .length in
+    record { warned = warned r l; other = other r l }

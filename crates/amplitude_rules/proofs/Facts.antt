@@ -1,14 +1,16 @@
 -- The tests of values and of fields, as facts.
 -- Assumes nothing.
 use Prim.Native.Nat.{ℕ, _+_, _≤_, _<_}
-use mathlib.Core.Bool.{Bool, true, false, _&&_, _||_}
+use mathlib.Core.Bool.{Bool, true, false, _&&_, _||_, false≢true}
+use mathlib.Core.Logic.{_⊎_, inl, inr}
 use mathlib.Core.Path.{_≡_, refl, sym, ap}
+use native.Mathlib.Decide.{decLt}
 use native.Mathlib.Omega.{arith}
 use lib.Dec.{leb, ltb, eqb}
 use lib.IntN.{ℤ, pos, negsuc}
-use borrow.Author.Tests.{lt-ltb, ltb-true, le-leb, leb-true, eqb-true}
+use borrow.Author.Tests.{lt-ltb, ltb-true, le-leb, leb-true, eqb-true, ne-eqb}
 use Rattle.bits.specs.Bits.{pick}
-use Rattle.bits.proofs.Tests.{both-true}
+use Rattle.bits.proofs.Tests.{both-true, and-true}
 use Rattle.gregorian.specs.Gregorian.{firstYear, leapYear, yearLength}
 use Rattle.calendar.specs.Calendar.{minuteCount, lastOfMonth}
 use Rattle.plan.specs.Plan.{minFrame, usualFrame, maxFrame}
@@ -16,6 +18,7 @@ use Rattle.amplitude_rules.specs.declared.Fields.{Fields}
 use Rattle.amplitude_rules.specs.declared.Values.{Values}
 use Rattle.amplitude_rules.specs.Amplitude.{signBits, legalSign, legalUT1, leapMark, lengthFits, legalValues}
 use Rattle.amplitude_rules.specs.Reading.{signOf, realFields}
+use Rattle.amplitude_rules.specs.Theorems.{LegalUT1}
 
 -- values that fit each other, as facts
 pub record Legal (r : Values) : Type 0 where
@@ -50,23 +53,25 @@ legal-values r l = simp (lt-ltb _ _ (l .minute), l .sign, le-leb _ _ (l .tenths)
 -- ---- the length
 
 -- a length that fits is 59, 60 or 61
-module _ (last : Bool) (warning n : ℕ) where
-  abbrev InRange : Type 0
-  InRange = (59 ≤ n) × (n ≤ 61)
+pub lengths : (last : Bool) (warning n : ℕ) → lengthFits last warning n ≡ true → (59 ≤ n) × (n ≤ 61)
+unfolding lengthFits
+lengths last warning n h =
+    elim (decLt n 59) [
+      | yes l ↦ absurd (outside (λ k e. omega arith))
+      | no l ↦ elim (decLt 61 n) [
+        | yes g ↦ absurd (outside (λ k e. omega arith))
+        | no g ↦ (omega arith, omega arith)
+      ]
+    ]
+  where
+    never : (t : Bool) → pick t false false ≡ true → ⊥
+    never true h = false≢true h
+    never false h = false≢true h
 
-  one-of-three : (t a b c : Bool) → (a ≡ true → InRange) → (b ≡ true → InRange) → (c ≡ true → InRange) → pick t (a || b) c ≡ true → InRange
-  one-of-three true true b c x y z h = x refl
-  one-of-three true false b c x y z h = y h
-  one-of-three false a b c x y z h = z h
-
-  pub lengths : lengthFits last warning n ≡ true → InRange
-  unfolding lengthFits
-  lengths h =
-      one-of-three (last && eqb warning 1) (eqb n minFrame) (eqb n maxFrame) (eqb n usualFrame)
-      (λ e. omega (arith, eqb-true n minFrame e))
-      (λ e. omega (arith, eqb-true n maxFrame e))
-      (λ e. omega (arith, eqb-true n usualFrame e))
-      h
+    outside : ((k : ℕ) → (59 ≤ k) × (k ≤ 61) → n ≡ k → ⊥) → ⊥
+    outside far =
+        never (last && eqb warning 1)
+        (rw (ne-eqb n minFrame (far minFrame (omega arith, omega arith)), ne-eqb n usualFrame (far usualFrame (omega arith, omega arith)), ne-eqb n maxFrame (far maxFrame (omega arith, omega arith))) at h)
 
 -- ---- the UT1 sign
 
@@ -127,3 +132,25 @@ real x h =
       high = leb-true _ _ (b .1);
       leap = eqb-true _ _ (a .1);
     }
+
+-- ---- UT1
+
+abbrev OneOrMinusOne : ℤ → Type 0
+OneOrMinusOne z = (z ≡ pos 1) ⊎ (z ≡ negsuc 0)
+
+sign-is : (z : ℤ) → legalSign z ≡ true → OneOrMinusOne z
+unfolding legalSign
+sign-is (pos n) h = inl (ap pos (eqb-true n 1 h))
+sign-is (negsuc n) h = inr (ap negsuc (eqb-true n 0 h))
+
+is-sign : (z : ℤ) → OneOrMinusOne z → legalSign z ≡ true
+unfolding legalSign
+is-sign z (inl e) = rw e
+is-sign z (inr e) = rw e
+
+pub legal-ut1 : LegalUT1
+unfolding legalUT1
+legal-ut1 sign tenths = (
+  (λ h. let b = both-true (legalSign sign) (leb tenths 9) h in (sign-is sign (b .0), leb-true tenths 9 (b .1))),
+  (λ h. and-true (is-sign sign (h .0)) (le-leb tenths 9 (h .1))),
+)

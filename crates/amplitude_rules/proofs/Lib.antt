@@ -3,6 +3,7 @@ pub mod Digits
 pub mod ReadBack
 pub mod Exact
 pub mod Dates
+pub mod Seconds
 pub mod Sent
 pub mod Refusals
 pub mod Examples

@@ -3,13 +3,14 @@
 use Prim.Native.Nat.{ℕ, _-_, _≤_, _<_}
 use mathlib.Core.Bool.{true, false}
 use mathlib.Core.List.{List, [], _∷_, _++_}
+use mathlib.Core.Logic.{_⊎_, inl, inr, _↔_}
 use mathlib.Core.Path.{_≡_, refl, sym, ap, _∙_}
 use native.Mathlib.Omega.{arith}
 use lib.Dec.{leb, eqb}
 use lib.IntN.{ℤ}
 use lib.ListN.{length, take, drop, length-append, length-drop}
 use lib.Seq.{take-at, drop-at}
-use borrow.Author.Tests.{leb-true, ne-eqb}
+use borrow.Author.Tests.{le-leb, lt-leb, leb-true, leb-false, ne-eqb}
 use Rattle.bits.specs.Bits.{pick}
 use Rattle.bits.specs.Numbers.{Numbers, found, refused as refusedWriting}
 use Rattle.questions.specs.Questions.{Question, asked, AllYes, FirstNo, numbersOf, oneOf}
@@ -20,9 +21,9 @@ use Rattle.plan.specs.Plan.{legalPlan, lengthAt}
 use Rattle.plan.specs.declared.Plan.{Plan}
 use Rattle.amplitude_rules.specs.declared.Values.{Values}
 use Rattle.amplitude_rules.specs.Amplitude.{legalUT1, symbols}
-use Rattle.amplitude_rules.specs.Reading.{valuesIn, readQuestions, refused, accepted, readAmplitude}
+use Rattle.amplitude_rules.specs.Reading.{layoutFits, valuesIn, fieldsFit, readQuestions, refused, accepted, readAmplitude}
 use Rattle.amplitude_rules.specs.Writing.{valuesAt, writeQuestions, writeAmplitude, symbolsWritten}
-use Rattle.amplitude_rules.specs.Theorems.{AmplitudeReadOrder, AmplitudeReadAccepted, AmplitudeReadRefused, AmplitudeReadAnswers, AmplitudeWriteOrder, AmplitudeWriteAccepted, AmplitudeWriteRefused, AmplitudeWriteAnswers, Done, AmplitudeWriteDone, AmplitudeWriteUndone}
+use Rattle.amplitude_rules.specs.Theorems.{AmplitudeReadOrder, AmplitudeReadAccepted, AmplitudeReadRefused, AmplitudeReadAnswers, AmplitudeReadFacts, AmplitudeWriteOrder, AmplitudeWriteAccepted, AmplitudeWriteRefused, AmplitudeWriteAnswers, AmplitudeWriteFacts, AmplitudeWriteReasons, Done, AmplitudeWriteDone, AmplitudeWriteUndone}
 use Rattle.amplitude_rules.proofs.Facts.{Legal}
 use Rattle.amplitude_rules.proofs.ReadBack.{length-of}
 use Rattle.amplitude_rules.proofs.Exact.{not-refused}
@@ -66,6 +67,99 @@ write-refused p t sign tenths space = number-alone-when (writeQuestions p t sign
 pub write-answers : AmplitudeWriteAnswers
 unfolding writeAmplitude
 write-answers p t sign tenths space = no-other (writeQuestions p t sign tenths space) _ _ _ (write-order p t sign tenths space)
+
+-- ---- the same without the lists
+
+seventeen : (s : List ℕ) → FirstNo (readQuestions s) 17 ↔ (layoutFits s ≡ false)
+unfolding readQuestions
+seventeen s = (there, λ h. inl (refl, h))
+  where
+    there : FirstNo (readQuestions s) 17 → layoutFits s ≡ false
+    there (inl h) = h .1
+    there (inr (h, inl k)) = absurd (omega (arith, k .0))
+    there (inr (h, inr k)) = absurd (k .1)
+
+eighteen : (s : List ℕ) → FirstNo (readQuestions s) 18 ↔ ((layoutFits s ≡ true) × (fieldsFit s ≡ false))
+unfolding readQuestions
+eighteen s = (there, λ h. inr (h .0, inl (refl, h .1)))
+  where
+    there : FirstNo (readQuestions s) 18 → (layoutFits s ≡ true) × (fieldsFit s ≡ false)
+    there (inl h) = absurd (omega (arith, h .0))
+    there (inr (h, inl k)) = (h, k .1)
+    there (inr (h, inr k)) = absurd (k .1)
+
+chained : {A B C : Type 0} → A ↔ B → B ↔ C → A ↔ C
+chained f g = ((λ a. g .0 (f .0 a)), (λ c. f .1 (g .1 c)))
+
+pub amplitude-read-facts : AmplitudeReadFacts
+amplitude-read-facts =
+    record {
+      symbols17 = λ s. chained (read-refused s 17) (seventeen s);
+      values18 = λ s. chained (read-refused s 18) (eighteen s);
+    }
+
+module _ (p : Plan) (t : ℕ) (sign : ℤ) (tenths space : ℕ) where
+  abbrev First : ℕ → Type 0
+  First k = FirstNo (writeQuestions p t sign tenths space) k
+
+  early : t < minuteCount → leb t maxMinute ≡ true
+  early h = le-leb t maxMinute (omega arith)
+
+  is-early : leb t maxMinute ≡ true → t < minuteCount
+  is-early h = omega (arith, leb-true t maxMinute h)
+
+  one : First 1 ↔ (legalPlan p ≡ false)
+  unfolding writeQuestions
+  one = (there, λ h. inl (refl, h))
+    where
+      there : First 1 → legalPlan p ≡ false
+      there (inl h) = h .1
+      there (inr (a, inl h)) = absurd (omega (arith, h .0))
+      there (inr (a, inr (b, inl h))) = absurd (omega (arith, h .0))
+      there (inr (a, inr (b, inr (c, inl h)))) = absurd (omega (arith, h .0))
+      there (inr (a, inr (b, inr (c, inr h)))) = absurd (h .1)
+
+  three : First 3 ↔ ((legalPlan p ≡ true) × (minuteCount ≤ t))
+  unfolding writeQuestions
+  three = (there, λ h. inr (h .0, inl (refl, lt-leb t maxMinute (omega (arith, h .1)))))
+    where
+      there : First 3 → (legalPlan p ≡ true) × (minuteCount ≤ t)
+      there (inl h) = absurd (omega (arith, h .0))
+      there (inr (a, inl h)) = (a, omega (arith, leb-false t maxMinute (h .1)))
+      there (inr (a, inr (b, inl h))) = absurd (omega (arith, h .0))
+      there (inr (a, inr (b, inr (c, inl h)))) = absurd (omega (arith, h .0))
+      there (inr (a, inr (b, inr (c, inr h)))) = absurd (h .1)
+
+  ut1 : First 18 ↔ ((legalPlan p ≡ true) × (t < minuteCount) × (legalUT1 sign tenths ≡ false))
+  unfolding writeQuestions
+  ut1 = (there, λ h. inr (h .0, inr (early (h .1), inl (refl, h .2))))
+    where
+      there : First 18 → (legalPlan p ≡ true) × (t < minuteCount) × (legalUT1 sign tenths ≡ false)
+      there (inl h) = absurd (omega (arith, h .0))
+      there (inr (a, inl h)) = absurd (omega (arith, h .0))
+      there (inr (a, inr (b, inl h))) = (a, is-early b, h .1)
+      there (inr (a, inr (b, inr (c, inl h)))) = absurd (omega (arith, h .0))
+      there (inr (a, inr (b, inr (c, inr h)))) = absurd (h .1)
+
+  four : First 4 ↔ ((legalPlan p ≡ true) × (t < minuteCount) × (legalUT1 sign tenths ≡ true) × (space < lengthAt p t))
+  unfolding writeQuestions
+  four = (there, λ h. inr (h .0, inr (early (h .1), inr (h .2, inl (refl, lt-leb (lengthAt p t) space (h .3))))))
+    where
+      there : First 4 → (legalPlan p ≡ true) × (t < minuteCount) × (legalUT1 sign tenths ≡ true) × (space < lengthAt p t)
+      there (inl h) = absurd (omega (arith, h .0))
+      there (inr (a, inl h)) = absurd (omega (arith, h .0))
+      there (inr (a, inr (b, inl h))) = absurd (omega (arith, h .0))
+      there (inr (a, inr (b, inr (c, inl h)))) = (a, is-early b, c, leb-false (lengthAt p t) space (h .1))
+      there (inr (a, inr (b, inr (c, inr h)))) = absurd (h .1)
+
+pub amplitude-write-reasons : AmplitudeWriteReasons
+amplitude-write-reasons p t sign tenths space =
+    record {
+      plan1 = chained (write-refused p t sign tenths space 1) (one p t sign tenths space);
+      minute3 = chained (write-refused p t sign tenths space 3) (three p t sign tenths space);
+      ut1-18 = chained (write-refused p t sign tenths space 18) (ut1 p t sign tenths space);
+      space4 = chained (write-refused p t sign tenths space 4) (four p t sign tenths space);
+    }
 
 -- ---- the buffer after writing
 

@@ -1,11 +1,13 @@
 -- Every statement of specs with its proof: where a proof is missing, this module is not proved.
 -- Assumes nothing.
-use Rattle.amplitude_rules.specs.Theorems.{ReadExactly, SymbolsApart, FieldsOfDate, FlagSeconds, SentReads, WarnedMonth, BothCodes, Table10, OneSymbolMistaken, LeapMinutes, AmplitudeReadOrder, AmplitudeReadAccepted, AmplitudeReadRefused, AmplitudeReadAnswers, AmplitudeWriteOrder, AmplitudeWriteAccepted, AmplitudeWriteRefused, AmplitudeWriteAnswers, AmplitudeWriteDone, AmplitudeWriteUndone}
-use Rattle.amplitude_rules.proofs.Exact.{read-exactly, symbols-apart}
+use Rattle.amplitude_rules.specs.Theorems.{ReadExactly, SymbolsApart, FieldsOfDate, FlagSeconds, AcceptedLengths, LegalUT1, LayoutSeconds, SentReads, WarnedMonth, BothCodes, Table10, OneSymbolMistaken, LeapMinutes, AmplitudeReadOrder, AmplitudeReadAccepted, AmplitudeReadRefused, AmplitudeReadAnswers, AmplitudeReadFacts, AmplitudeWriteOrder, AmplitudeWriteAccepted, AmplitudeWriteRefused, AmplitudeWriteAnswers, AmplitudeWriteReasons, AmplitudeWriteDone, AmplitudeWriteUndone}
+use Rattle.amplitude_rules.proofs.Exact.{read-exactly, symbols-apart, accepted-lengths}
 use Rattle.amplitude_rules.proofs.Dates.{fields-of-date, flag-seconds}
+use Rattle.amplitude_rules.proofs.Facts.{legal-ut1}
+use Rattle.amplitude_rules.proofs.Seconds.{layout-seconds}
 use Rattle.amplitude_rules.proofs.Sent.{sent-reads, warned-month, both-codes}
 use Rattle.amplitude_rules.proofs.Examples.{table-10, one-symbol-mistaken, leap-minutes}
-use Rattle.amplitude_rules.proofs.Refusals.{read-order, read-accepted, read-refused, read-answers, write-order, write-accepted, write-refused, write-answers, write-done, write-undone}
+use Rattle.amplitude_rules.proofs.Refusals.{read-order, read-accepted, read-refused, read-answers, amplitude-read-facts, write-order, write-accepted, write-refused, write-answers, amplitude-write-reasons, write-done, write-undone}
 
 read-exactly′ : ReadExactly
 read-exactly′ = read-exactly
@@ -18,6 +20,15 @@ fields-of-date′ = fields-of-date
 
 flag-seconds′ : FlagSeconds
 flag-seconds′ = flag-seconds
+
+accepted-lengths′ : AcceptedLengths
+accepted-lengths′ = accepted-lengths
+
+legal-ut1′ : LegalUT1
+legal-ut1′ = legal-ut1
+
+layout-seconds′ : LayoutSeconds
+layout-seconds′ = layout-seconds
 
 sent-reads′ : SentReads
 sent-reads′ = sent-reads
@@ -49,6 +60,9 @@ read-refused′ = read-refused
 read-answers′ : AmplitudeReadAnswers
 read-answers′ = read-answers
 
+amplitude-read-facts′ : AmplitudeReadFacts
+amplitude-read-facts′ = amplitude-read-facts
+
 write-order′ : AmplitudeWriteOrder
 write-order′ = write-order
 
@@ -60,6 +74,9 @@ write-refused′ = write-refused
 
 write-answers′ : AmplitudeWriteAnswers
 write-answers′ = write-answers
+
+amplitude-write-reasons′ : AmplitudeWriteReasons
+amplitude-write-reasons′ = amplitude-write-reasons
 
 write-done′ : AmplitudeWriteDone
 write-done′ = write-done

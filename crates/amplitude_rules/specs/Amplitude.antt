@@ -1,6 +1,6 @@
 -- The amplitude code: one minute in 59 to 61 symbols (document 02, 5, "The amplitude code as well"; its layout is Table 1 of source document 000).
 -- Assumes nothing.
-use Prim.Native.Nat.{ℕ, _+_, _-_, _*_, _/_, _%_}
+use Prim.Native.Nat.{ℕ, _+_, _-_, _/_, _%_}
 use mathlib.Core.Bool.{Bool, _&&_, _||_}
 use mathlib.Core.List.{List, [], _∷_, _++_}
 use lib.Dec.{leb, ltb, eqb}
@@ -51,7 +51,7 @@ unfoldable pub legalSign : ℤ → Bool
 legalSign (pos n) = eqb n 1
 legalSign (negsuc n) = eqb n 0
 
--- and its tenths are 0 to 9; minus 0 tenths is legal, and not plus 0 tenths
+-- and its tenths are 0 to 9; minus 0 tenths is legal too, and differs from plus 0 tenths
 unfoldable pub legalUT1 : ℤ → ℕ → Bool
 legalUT1 sign tenths = legalSign sign && leb tenths 9
 

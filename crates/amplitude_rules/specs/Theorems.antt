@@ -1,16 +1,18 @@
 -- What is proved of the amplitude code (document 02, 5, "The amplitude code as well").
 -- Assumes nothing.
-use Prim.Native.Nat.{ℕ, _+_, _-_, _/_, _%_, _<_}
-use mathlib.Core.Bool.{true}
+use Prim.Native.Nat.{ℕ, _+_, _-_, _/_, _%_, _≤_, _<_}
+use mathlib.Core.Bool.{Bool, true, false}
 use mathlib.Core.List.{List, [], _∷_, _++_}
 use mathlib.Core.Logic.{_↔_, _⊎_, _≢_}
 use mathlib.Core.Path.{_≡_}
+use lib.Dec.{leb, eqb}
 use lib.IntN.{ℤ, pos, negsuc}
-use lib.ListN.{length, take, drop, set}
+use lib.ListN.{length, take, drop, getD, set}
+use Rattle.bits.specs.Bits.{pick}
 use Rattle.bits.specs.Numbers.{found, refused as refusedWriting}
 use Rattle.questions.specs.Questions.{AllYes, FirstNo, numbersOf, oneOf}
-use Rattle.gregorian.specs.Gregorian.{firstYear, monthsOf, before}
-use Rattle.calendar.specs.Calendar.{minuteCount, dateAt, monthIndex}
+use Rattle.gregorian.specs.Gregorian.{firstYear, leapYear, monthsOf, before}
+use Rattle.calendar.specs.Calendar.{minuteCount, dateAt, monthIndex, lastOfMonth}
 use Rattle.plan.specs.Plan.{legalPlan, lengthAt}
 use Rattle.plan.specs.declared.Plan.{Plan}
 use Rattle.format.specs.Frame.{sentBy, frame}
@@ -21,8 +23,8 @@ use Rattle.format.specs.Next.{OneOutcome, readOne}
 use Rattle.sequence.specs.Demand.{SpaceEnough}
 use Rattle.sequence.specs.Bench.{rows10And37}
 use Rattle.amplitude_rules.specs.declared.Values.{Values}
-use Rattle.amplitude_rules.specs.Amplitude.{legalUT1, leapMark, legalValues, fieldsOf, symbols}
-use Rattle.amplitude_rules.specs.Reading.{valuesIn, readQuestions, refused, accepted, readAmplitude}
+use Rattle.amplitude_rules.specs.Amplitude.{legalUT1, legalValues, fieldsOf, symbols}
+use Rattle.amplitude_rules.specs.Reading.{layoutFits, valuesIn, fieldsFit, readQuestions, refused, accepted, readAmplitude}
 use Rattle.amplitude_rules.specs.Writing.{warningAt, valuesAt, writeQuestions, writeAmplitude, symbolsWritten}
 
 -- ---- symbols and values
@@ -49,7 +51,39 @@ FieldsOfDate = (r : Values) → r .minute < minuteCount → DateFields r
 abbrev pub FlagSeconds : Type 0
 FlagSeconds =
     (r : Values) → legalValues r ≡ true
-    → take 4 (drop 55 (symbols r)) ≡ leapMark (dateAt (r .minute) .year) ∷ r .warning ∷ r .daylight / 2 ∷ r .daylight % 2 ∷ []
+    → take 4 (drop 55 (symbols r)) ≡ pick (leapYear (dateAt (r .minute) .year)) 1 0 ∷ r .warning ∷ r .daylight / 2 ∷ r .daylight % 2 ∷ []
+
+-- a month's last minute that is accepted with the warning has 59 or 61 seconds, and every other that is accepted has 60
+pub record LengthOf (r : Values) : Type 0 where
+  pub warned : lastOfMonth (r .minute) ≡ true → r .warning ≡ 1 → (r .seconds ≡ 59) ⊎ (r .seconds ≡ 61)
+  pub other : (lastOfMonth (r .minute) ≡ false) ⊎ (r .warning ≢ 1) → r .seconds ≡ 60
+
+abbrev pub AcceptedLengths : Type 0
+AcceptedLengths = (s : List ℕ) (r : Values) → readAmplitude s ≡ accepted r → LengthOf r
+
+-- UT1 is legal exactly when its sign is +1 or -1 and its tenths are at most 9
+abbrev pub LegalUT1 : Type 0
+LegalUT1 = (sign : ℤ) (tenths : ℕ) → legalUT1 sign tenths ≡ true ↔ (((sign ≡ pos 1) ⊎ (sign ≡ negsuc 0)) × (tenths ≤ 9))
+
+-- ---- question 17, second by second
+
+-- the seconds of the markers, and those that are always 0
+abbrev pub markers : List ℕ
+markers = 0 ∷ 9 ∷ 19 ∷ 29 ∷ 39 ∷ 49 ∷ 59 ∷ 60 ∷ []
+
+abbrev pub zeros : List ℕ
+zeros = 4 ∷ 10 ∷ 11 ∷ 14 ∷ 20 ∷ 21 ∷ 24 ∷ 34 ∷ 35 ∷ 44 ∷ 54 ∷ []
+
+-- symbol x is right at second k: 2 at a marker, 0 where it is always 0, else 0 or 1
+unfoldable pub rightAt : ℕ → ℕ → Bool
+rightAt k x = pick (oneOf markers k) (eqb x 2) (pick (oneOf zeros k) (eqb x 0) (leb x 1))
+
+-- question 17 is answered yes exactly when there are 59 to 61 symbols and each is right at its second
+abbrev pub LayoutSeconds : Type 0
+LayoutSeconds =
+    (s : List ℕ)
+    → layoutFits s ≡ true
+    ↔ ((59 ≤ length s) × (length s ≤ 61) × ((k : ℕ) → k < length s → rightAt k (getD s k 0) ≡ true))
 
 -- ---- a plan's minute
 
@@ -139,6 +173,11 @@ abbrev pub AmplitudeReadAnswers : Type 0
 AmplitudeReadAnswers =
     (s : List ℕ) → (readAmplitude s ≡ accepted (valuesIn s)) ⊎ ((n : ℕ) × (oneOf readRefusals n ≡ true) × (readAmplitude s ≡ refused n))
 
+-- without the list: 17 is about the layout, 18 about what stands in it
+pub record AmplitudeReadFacts : Type 0 where
+  pub symbols17 : (s : List ℕ) → readAmplitude s ≡ refused 17 ↔ (layoutFits s ≡ false)
+  pub values18 : (s : List ℕ) → readAmplitude s ≡ refused 18 ↔ ((layoutFits s ≡ true) × (fieldsFit s ≡ false))
+
 -- ---- the refusals of writing
 
 -- the numbers of the questions, in their order
@@ -166,6 +205,18 @@ AmplitudeWriteAnswers =
     (p : Plan) (t : ℕ) (sign : ℤ) (tenths space : ℕ)
     → (writeAmplitude p t sign tenths space ≡ found (lengthAt p t ∷ []))
     ⊎ ((k : ℕ) × (oneOf writeRefusals k ≡ true) × (writeAmplitude p t sign tenths space ≡ refusedWriting k))
+
+-- without the list: 1 is about the plan, 3 about the minute, 18 about UT1, 4 about the buffer
+pub record AmplitudeWriteFacts (p : Plan) (t : ℕ) (sign : ℤ) (tenths space : ℕ) : Type 0 where
+  pub plan1 : writeAmplitude p t sign tenths space ≡ refusedWriting 1 ↔ (legalPlan p ≡ false)
+  pub minute3 : writeAmplitude p t sign tenths space ≡ refusedWriting 3 ↔ ((legalPlan p ≡ true) × (minuteCount ≤ t))
+  pub ut1-18 : writeAmplitude p t sign tenths space ≡ refusedWriting 18 ↔ ((legalPlan p ≡ true) × (t < minuteCount) × (legalUT1 sign tenths ≡ false))
+  pub space4 :
+      writeAmplitude p t sign tenths space ≡ refusedWriting 4
+      ↔ ((legalPlan p ≡ true) × (t < minuteCount) × (legalUT1 sign tenths ≡ true) × (space < lengthAt p t))
+
+abbrev pub AmplitudeWriteReasons : Type 0
+AmplitudeWriteReasons = (p : Plan) (t : ℕ) (sign : ℤ) (tenths space : ℕ) → AmplitudeWriteFacts p t sign tenths space
 
 -- accepted: the symbols stand first in the buffer and read back as sent, and the bytes after them are as before
 pub record Done (p : Plan) (t : ℕ) (sign : ℤ) (tenths : ℕ) (buffer : List ℕ) : Type 0 where
