@@ -86,9 +86,9 @@ extern "C" {
  * Refusals
  */
 
-/* Writing is wwvb_write_recording, and wwvb_write_amplitude, which makes no check 2, and both by a
-   plan that is a struct. Reading is wwvb_read_frame, and wwvb_read_recording, which makes checks 5
-   to 14 for each frame. What is of the amplitude code alone says so. */
+/* Writing is wwvb_write_recording and wwvb_write_amplitude, and their inline forms; the second
+   makes no check 2. Reading is wwvb_read_frame and wwvb_read_recording, which makes checks 5 to 14
+   for each frame. What concerns the amplitude code alone says so. */
 enum wwvb_refusal {
     WWVB_OK = 0,               /* every check passed */
     WWVB_ILLEGAL_PLAN = 1,     /* writing: the plan is not legal */

@@ -717,7 +717,7 @@ static void random_write_amplitude(void)
     uint32_t minute = random_minute(&p);
     int32_t sign = random_sign();
     uint32_t tenths = one_in(16) ? odd_number(9) : below(10);
-    size_t space = one_in(3) ? below(71) : one_in(2) ? 59 + below(3) : 61;
+    size_t space = one_in(3) ? below(71) : one_in(2) ? 59 + below(3) : one_in(4) ? below(500) : 61;
 
     if (one_in(8))
         spoil(&p);

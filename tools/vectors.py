@@ -918,7 +918,7 @@ def amplitude_readings():
     # 18: each digit of four bits at 10; but for the tenths and the year's tens the field would stay in range
     for k in (5, 15, 25, 30, 40, 45, 50):
         table_10_changed((k, "1010"))
-    # 18: all signs but 101 and 010
+    # every UT1 sign: all but 101 and 010 give 18
     for n in range(8):
         table_10_changed((36, f"{n:03b}"))
     # 18: minute, hour and day of the year beside their limits
