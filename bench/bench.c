@@ -22,7 +22,7 @@
 
 static const struct codec library = {
     "library", wwvb_write_recording, wwvb_read_recording, wwvb_minute_to_date, wwvb_minute_to_date, wwvb_date_to_minute,
-    wwvb_local_date, wwvb_write_amplitude, wwvb_read_amplitude,
+    wwvb_local_date, wwvb_write_amplitude, wwvb_write_amplitude, wwvb_read_amplitude, wwvb_read_amplitude,
 };
 
 #define CODEC(name) extern const struct codec name;
@@ -153,29 +153,57 @@ static size_t make_minutes(const struct codec *c, uint32_t n)
     return FRAMES;
 }
 
-/* The minutes that are written in the amplitude code are those above, each with other UT1. */
-typedef wwvb_write_reply write_call(uint32_t, uint32_t, uint32_t, uint32_t, int32_t, uint32_t,
-                                    uint32_t, int32_t, uint32_t, uint8_t *, size_t);
+/* A writing of the amplitude code: what the call takes, and the refusal that is due. */
+struct writing {
+    uint32_t kind, spring, autumn, leap_month;
+    int32_t leap_sign;
+    uint32_t notice, minute;
+    int32_t ut1_sign;
+    uint32_t ut1_tenths;
+    size_t space, refusal;
+};
 
-static wwvb_write_reply write_minute(write_call *call, uint32_t i, uint8_t *out)
+static uint8_t symbols[2][WWVB_MAX_FRAME + 1];
+
+static wwvb_write_reply write_minute(write_amplitude_call *call, const struct writing *w, uint8_t *out)
 {
-    return call(0, 10, 37, 149, 1, 0, dates[i].number, i % 2 ? 1 : -1, i % 10, out,
-                WWVB_MAX_FRAME);
+    return call(w->kind, w->spring, w->autumn, w->leap_month, w->leap_sign, w->notice, w->minute, w->ut1_sign,
+                w->ut1_tenths, out, w->space);
 }
 
-static uint8_t symbols[2][WWVB_MAX_FRAME];
+/* The minutes that are written are those above, each with other UT1. */
+static struct writing measured(uint32_t i)
+{
+    struct writing w = {0, 10, 37, 149, 1, 0, 0, 0, 0, WWVB_MAX_FRAME, WWVB_OK};
 
-static size_t write_minutes(const struct codec *c, uint32_t n)
+    w.minute = dates[i].number;
+    w.ut1_sign = i % 2 ? 1 : -1;
+    w.ut1_tenths = i % 10;
+    return w;
+}
+
+static size_t minutes_written_by(write_amplitude_call *call)
 {
     uint32_t i;
-    write_call *call = c->write_amplitude;
 
-    (void)n;
     for (i = 0; i < FRAMES; i++) {
-        wwvb_write_reply r = write_minute(call, i, symbols[0]);
+        struct writing w = measured(i);
+        wwvb_write_reply r = write_minute(call, &w, symbols[0]);
         sink += (uint32_t)r.bits + r.refusal + symbols[0][i % 59];
     }
     return FRAMES;
+}
+
+static size_t write_minutes(const struct codec *c, uint32_t n)
+{
+    (void)n;
+    return minutes_written_by(c->write_amplitude);
+}
+
+static size_t write_minutes_fast(const struct codec *c, uint32_t n)
+{
+    (void)n;
+    return minutes_written_by(c->fast_write_amplitude);
 }
 
 /* The first of them are read, as they were written beforehand. */
@@ -185,18 +213,28 @@ static struct {
     size_t length;
 } minutes[MINUTES];
 
-static size_t read_minutes(const struct codec *c, uint32_t n)
+static size_t minutes_read_by(read_amplitude_call *call)
 {
     uint32_t i, k;
-    wwvb_amplitude_reply (*call)(const uint8_t *, size_t) = c->read_amplitude;
 
-    (void)n;
     for (i = 0, k = 0; i < FRAMES; i++, k = k + 1 < MINUTES ? k + 1 : 0) {
         wwvb_amplitude_reply r = call(minutes[k].symbols, minutes[k].length);
         sink += r.refusal + r.year + r.month + r.day + r.hour + r.minute + r.weekday;
         sink += (uint32_t)r.ut1_sign + r.ut1_tenths + r.warning + r.daylight + r.length;
     }
     return FRAMES;
+}
+
+static size_t read_minutes(const struct codec *c, uint32_t n)
+{
+    (void)n;
+    return minutes_read_by(c->read_amplitude);
+}
+
+static size_t read_minutes_fast(const struct codec *c, uint32_t n)
+{
+    (void)n;
+    return minutes_read_by(c->fast_read_amplitude);
 }
 
 /* The rows in which the library takes longer than some plain codec. */
@@ -298,33 +336,139 @@ static void date_all(void)
         }
 }
 
-/* Writes and reads each minute by each codec, the library first, and keeps those that are read. */
+/* Writes by each codec, straightforwardly and for speed alone, the library first, to `symbols`. */
+static size_t write_minute_all(const struct writing *w)
+{
+    wwvb_write_reply r[2];
+    size_t k;
+
+    for (k = 0; k < 2 * CODECS; k++) {
+        const struct codec *c = codecs[k / 2];
+        size_t j = k > 0;
+
+        memset(symbols[j], 9, sizeof symbols[j]);
+        r[j] = write_minute(k % 2 ? c->fast_write_amplitude : c->write_amplitude, w, symbols[j]);
+        if (r[j].refusal != w->refusal || r[j].bits != r[0].bits || memcmp(symbols[0], symbols[j], sizeof symbols[0]))
+            differ(c, k % 2 ? "writing the amplitude code for speed alone" : "writing the amplitude code");
+    }
+    return r[0].bits;
+}
+
+/* Reads by each codec, straightforwardly and for speed alone, the library first. */
+static uint32_t read_minute_all(const uint8_t *s, size_t length)
+{
+    wwvb_amplitude_reply r[2];
+    size_t k;
+
+    for (k = 0; k < 2 * CODECS; k++) {
+        const struct codec *c = codecs[k / 2];
+        size_t j = k > 0;
+
+        r[j] = (k % 2 ? c->fast_read_amplitude : c->read_amplitude)(s, length);
+        if (memcmp(&r[0], &r[j], sizeof r[0]))
+            differ(c, k % 2 ? "reading the amplitude code for speed alone" : "reading the amplitude code");
+    }
+    return r[0].refusal;
+}
+
+/* Reads a minute with each symbol changed, once with its UT1 sign and once with a wrong one. */
+static void read_changed(uint8_t *s, size_t length)
+{
+    static const uint8_t others[] = {0, 1, 2, 3, 255};
+    size_t i, k;
+    int wrong;
+
+    for (wrong = 0; wrong < 2; wrong++) {
+        for (i = 0; i < length; i++) {
+            uint8_t kept = s[i];
+
+            for (k = 0; k < sizeof others; k++) {
+                s[i] = others[k];
+                read_minute_all(s, length);
+            }
+            s[i] = kept;
+        }
+        s[36] ^= 1;
+    }
+}
+
+/* The last minute of a month with a leap second of each sign and without: written with space enough and without, read
+   in each length, right or not, with the warning and without. */
+static void month_end_all(uint32_t month)
+{
+    uint32_t next = month + 1;
+    struct writing w = {0, 0, 0, 0, 0, 0, 0, 1, 0, 0, 0};
+    size_t length;
+
+    w.kind = month % 3;
+    w.spring = w.kind ? 0 : 10;
+    w.autumn = w.kind ? 0 : 37;
+    w.minute = next < 1200 ? wwvb_date_to_minute(2000 + next / 12, 1 + next % 12, 1, 0, 0).minute : WWVB_MINUTES;
+    w.minute--;
+    for (w.leap_sign = -1; w.leap_sign <= 1; w.leap_sign++) {
+        w.leap_month = w.leap_sign ? month : 0;
+        for (w.space = WWVB_MIN_FRAME - 1; w.space <= WWVB_MAX_FRAME; w.space++) {
+            w.refusal = w.space < (size_t)(60 + w.leap_sign) ? WWVB_NO_BIT_SPACE : WWVB_OK;
+            write_minute_all(&w);
+        }
+        memset(symbols[0] + 59, 2, sizeof symbols[0] - 59);
+        for (length = WWVB_MIN_FRAME - 1; length <= WWVB_MAX_FRAME + 1; length++) {
+            read_minute_all(symbols[0], length);
+            symbols[0][56] ^= 1;
+            read_minute_all(symbols[0], length);
+            symbols[0][56] ^= 1;
+        }
+    }
+}
+
+/* Writings that are refused. The last three have more than one reason, and the first of the order counts. */
+static const struct writing refused[] = {
+    {3, 0, 0, 0, 0, 0, 0, 1, 0, 61, WWVB_ILLEGAL_PLAN},
+    {0, 0, 37, 0, 0, 0, 0, 1, 0, 61, WWVB_ILLEGAL_PLAN},
+    {0, 25, 37, 0, 0, 0, 0, 1, 0, 61, WWVB_ILLEGAL_PLAN},
+    {0, 10, 24, 0, 0, 0, 0, 1, 0, 61, WWVB_ILLEGAL_PLAN},
+    {0, 10, 49, 0, 0, 0, 0, 1, 0, 61, WWVB_ILLEGAL_PLAN},
+    {1, 10, 0, 0, 0, 0, 0, 1, 0, 61, WWVB_ILLEGAL_PLAN},
+    {2, 0, 37, 0, 0, 0, 0, 1, 0, 61, WWVB_ILLEGAL_PLAN},
+    {0, 10, 37, 1200, 1, 0, 0, 1, 0, 61, WWVB_ILLEGAL_PLAN},
+    {0, 10, 37, 1, 0, 0, 0, 1, 0, 61, WWVB_ILLEGAL_PLAN},
+    {0, 10, 37, 0, 2, 0, 0, 1, 0, 61, WWVB_ILLEGAL_PLAN},
+    {0, 10, 37, 0, -2, 0, 0, 1, 0, 61, WWVB_ILLEGAL_PLAN},
+    {0, 10, 37, 0, 0, 2, 0, 1, 0, 61, WWVB_ILLEGAL_PLAN},
+    {0, 10, 37, 0, 0, 0, WWVB_MINUTES, 1, 0, 61, WWVB_MINUTE_TOO_LARGE},
+    {0, 10, 37, 0, 0, 0, UINT32_MAX, 1, 0, 61, WWVB_MINUTE_TOO_LARGE},
+    {0, 10, 37, 0, 0, 0, 0, 0, 0, 61, WWVB_BAD_VALUE},
+    {0, 10, 37, 0, 0, 0, 0, 2, 0, 61, WWVB_BAD_VALUE},
+    {0, 10, 37, 0, 0, 0, 0, -2, 0, 61, WWVB_BAD_VALUE},
+    {0, 10, 37, 0, 0, 0, 0, 1, 10, 61, WWVB_BAD_VALUE},
+    {0, 10, 37, 0, 0, 0, 0, 1, 0, 0, WWVB_NO_BIT_SPACE},
+    {3, 0, 0, 0, 0, 0, WWVB_MINUTES, 0, 10, 0, WWVB_ILLEGAL_PLAN},
+    {0, 10, 37, 0, 0, 0, WWVB_MINUTES, 0, 10, 0, WWVB_MINUTE_TOO_LARGE},
+    {0, 10, 37, 0, 0, 0, 0, 0, 10, 0, WWVB_BAD_VALUE},
+};
+
+/* The amplitude code by each codec: what is measured, which is kept to be read, and what is refused. */
 static void amplitude_all(void)
 {
     uint32_t i;
-    size_t k;
 
     for (i = 0; i < FRAMES; i++) {
-        wwvb_write_reply w[2];
-        wwvb_amplitude_reply r[2];
+        struct writing w = measured(i);
+        size_t length = write_minute_all(&w);
 
-        for (k = 0; k < CODECS; k++) {
-            size_t j = k > 0;
-
-            memset(symbols[j], 9, sizeof symbols[j]);
-            w[j] = write_minute(codecs[k]->write_amplitude, i, symbols[j]);
-            if (w[j].refusal || w[j].bits != w[0].bits
-                || memcmp(symbols[0], symbols[j], sizeof symbols[0]))
-                differ(codecs[k], "writing the amplitude code");
-            r[j] = codecs[k]->read_amplitude(symbols[j], w[j].bits);
-            if (r[j].refusal || memcmp(&r[0], &r[j], sizeof r[0]))
-                differ(codecs[k], "reading the amplitude code");
-        }
+        if (read_minute_all(symbols[0], length))
+            differ(&library, "reading the amplitude code");
         if (i < MINUTES) {
-            memcpy(minutes[i].symbols, symbols[0], sizeof symbols[0]);
-            minutes[i].length = w[0].bits;
+            memcpy(minutes[i].symbols, symbols[0], sizeof minutes[i].symbols);
+            minutes[i].length = length;
+            read_changed(symbols[0], length);
         }
     }
+    for (i = 0; i < 1200; i++)
+        month_end_all(i);
+    for (i = 0; i < sizeof refused / sizeof refused[0]; i++)
+        write_minute_all(&refused[i]);
+    read_minute_all(symbols[0], 0);
 }
 
 /* What is read: the plan's kind, its leap month and sign, the first minute, and whether one bit of each frame is inverted. */
@@ -383,7 +527,9 @@ int main(void)
 
     amplitude_all();
     measure("write a minute, amplitude", write_minutes, 0);
+    measure("the same, C for speed alone", write_minutes_fast, 0);
     measure("read a minute, amplitude", read_minutes, 0);
+    measure("the same, C for speed alone", read_minutes_fast, 0);
     printf("\nThe library takes longer than some plain codec in: %s.\n", slower[0] ? slower + 2 : "no row");
     return sink == 1; /* keeps the sums from being dropped */
 }

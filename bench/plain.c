@@ -1,8 +1,8 @@
 /*
  * Straightforward code: parity by masks and the compiler's parity of a word, correction by a table of syndromes, code
  * words by tables and their inverses, bits moved one at a time, the calendar by cycles of four years, and the plan
- * asked anew for each frame. The amplitude code is written for speed: symbols are checked eight at
- * a time and moved a digit at a time.
+ * asked anew for each frame; in the amplitude code a table of what each second is, and symbols checked and moved one at
+ * a time. Three functions are written for speed alone instead, are named fast_.., and have rows of their own.
  *
  * PLAIN names the codec that this file makes and PLAIN_LABEL is its column's heading, so that one program can hold it
  * several times, each built by another compiler or with other flags.
@@ -32,18 +32,23 @@ struct day {
     uint32_t month; /* from 0 */
 };
 
+static uint32_t month_of(uint32_t of_year, const uint16_t *starts)
+{
+    uint32_t month = of_year / 31;
+
+    if (of_year >= starts[month + 1])
+        month++;
+    return month;
+}
+
 static struct day day_at(uint32_t number)
 {
     struct day d;
     uint32_t rest = number % 1461, year = rest < 366 ? 0 : (rest - 1) / 365;
-    const uint16_t *starts;
 
     d.year = number / 1461 * 4 + year;
     d.of_year = year == 0 ? rest : (rest - 1) % 365;
-    starts = month_starts[year == 0];
-    d.month = d.of_year / 31;
-    if (d.of_year >= starts[d.month + 1])
-        d.month++;
+    d.month = month_of(d.of_year, month_starts[year == 0]);
     return d;
 }
 
@@ -389,6 +394,133 @@ static wwvb_read_reply read_recording(const uint8_t *bits, size_t bits_length, u
 
 /* ---- the amplitude code */
 
+/* What a second is; the number is the largest symbol that may stand there. */
+enum { ZERO, BIT, MARKER };
+
+/* What each second is in Table 1, ten seconds a line, with second 60 at the end. */
+static const uint8_t seconds[61] = {
+    MARKER, BIT,  BIT, BIT, ZERO, BIT,  BIT, BIT, BIT, MARKER,
+    ZERO,   ZERO, BIT, BIT, ZERO, BIT,  BIT, BIT, BIT, MARKER,
+    ZERO,   ZERO, BIT, BIT, ZERO, BIT,  BIT, BIT, BIT, MARKER,
+    BIT,    BIT,  BIT, BIT, ZERO, ZERO, BIT, BIT, BIT, MARKER,
+    BIT,    BIT,  BIT, BIT, ZERO, BIT,  BIT, BIT, BIT, MARKER,
+    BIT,    BIT,  BIT, BIT, ZERO, BIT,  BIT, BIT, BIT, MARKER,
+    MARKER,
+};
+
+#define PLUS 5u  /* 101 */
+#define MINUS 2u /* 010 */
+
+static wwvb_write_reply write_amplitude(uint32_t kind, uint32_t spring, uint32_t autumn,
+                                        uint32_t leap_month, int32_t leap_sign, uint32_t notice,
+                                        uint32_t minute, int32_t ut1_sign, uint32_t ut1_tenths,
+                                        uint8_t *out, size_t out_length)
+{
+    struct plan p = {kind, spring, autumn, leap_month, leap_sign, notice};
+    wwvb_write_reply r = {0, 0};
+    struct day d;
+    uint32_t day, hour, of_hour, of_year;
+    unsigned leap, length, i;
+
+    if (!is_legal(&p))
+        r.refusal = WWVB_ILLEGAL_PLAN;
+    else if (minute >= WWVB_MINUTES)
+        r.refusal = WWVB_MINUTE_TOO_LARGE;
+    else if ((ut1_sign != 1 && ut1_sign != -1) || ut1_tenths > 9)
+        r.refusal = WWVB_BAD_VALUE;
+    if (r.refusal)
+        return r;
+    day = minute / 1440;
+    d = day_at(day);
+    leap = leap_of(&p, &d);
+    length = length_of(leap, minute, &d);
+    if (length > out_length) {
+        r.refusal = WWVB_NO_BIT_SPACE;
+        return r;
+    }
+    hour = minute % 1440 / 60;
+    of_hour = minute % 60;
+    of_year = d.of_year + 1;
+    for (i = 0; i < length; i++)
+        out[i] = seconds[i] == MARKER ? MARKER : 0;
+    put(out + 1, of_hour / 10, 3);
+    put(out + 5, of_hour % 10, 4);
+    put(out + 12, hour / 10, 2);
+    put(out + 15, hour % 10, 4);
+    put(out + 22, of_year / 100, 2);
+    put(out + 25, of_year / 10 % 10, 4);
+    put(out + 30, of_year % 10, 4);
+    put(out + 36, ut1_sign > 0 ? PLUS : MINUS, 3);
+    put(out + 40, ut1_tenths, 4);
+    put(out + 45, d.year / 10, 4);
+    put(out + 50, d.year % 10, 4);
+    put(out + 55, d.year % 4 == 0, 1);
+    put(out + 56, leap != 0, 1);
+    put(out + 57, daylight_of(&p, day, &d), 2);
+    r.bits = length;
+    return r;
+}
+
+static wwvb_amplitude_reply read_amplitude(const uint8_t *s, size_t length)
+{
+    wwvb_amplitude_reply r = {0, 0, 0, 0, 0, 0, 0, 0, 0, 0, 0, 0};
+    uint32_t minute_units, hour_units, day_tens, day_units, sign, tenths, year_tens, year_units;
+    uint32_t minute, hour, of_year, year, leap_year, warning;
+    const uint16_t *starts;
+    struct day d;
+    size_t i;
+
+    r.refusal = WWVB_BAD_SYMBOLS;
+    if (length < 59 || length > 61)
+        return r;
+    for (i = 0; i < length; i++)
+        if (seconds[i] == MARKER ? s[i] != MARKER : s[i] > seconds[i])
+            return r;
+
+    r.refusal = WWVB_BAD_VALUE;
+    minute_units = get(s + 5, 4);
+    hour_units = get(s + 15, 4);
+    day_tens = get(s + 25, 4);
+    day_units = get(s + 30, 4);
+    sign = get(s + 36, 3);
+    tenths = get(s + 40, 4);
+    year_tens = get(s + 45, 4);
+    year_units = get(s + 50, 4);
+    if (minute_units > 9 || hour_units > 9 || day_tens > 9 || day_units > 9 || tenths > 9
+        || year_tens > 9 || year_units > 9 || (sign != PLUS && sign != MINUS))
+        return r;
+    minute = get(s + 1, 3) * 10 + minute_units;
+    hour = get(s + 12, 2) * 10 + hour_units;
+    of_year = get(s + 22, 2) * 100 + day_tens * 10 + day_units;
+    year = year_tens * 10 + year_units;
+    leap_year = year % 4 == 0;
+    warning = get(s + 56, 1);
+    if (minute > 59 || hour > 23 || of_year < 1 || of_year > 365 + leap_year || get(s + 55, 1) != leap_year)
+        return r;
+    starts = month_starts[leap_year];
+    d.year = year;
+    d.of_year = of_year - 1;
+    d.month = month_of(d.of_year, starts);
+    if (warning && ends_month(hour * 60 + minute, &d) ? length == 60 : length != 60)
+        return r;
+
+    r.refusal = WWVB_OK;
+    r.year = 2000 + year;
+    r.month = d.month + 1;
+    r.day = of_year - starts[d.month];
+    r.hour = hour;
+    r.minute = minute;
+    r.weekday = (year_start(year) + d.of_year) % 7;
+    r.ut1_sign = sign == PLUS ? 1 : -1;
+    r.ut1_tenths = tenths;
+    r.warning = warning;
+    r.daylight = get(s + 57, 2);
+    r.length = (uint32_t)length;
+    return r;
+}
+
+/* ---- the same for speed alone: symbols are checked eight at a time and moved a digit at a time */
+
 /* A minute with 0 in every field: what stands at the fixed seconds. */
 static const uint8_t blank[61] = {
     2, 0, 0, 0, 0, 0, 0, 0, 0, 2, 0, 0, 0, 0, 0, 0, 0, 0, 0, 2, 0, 0, 0, 0, 0, 0, 0, 0, 0, 2,
@@ -412,10 +544,10 @@ static const uint8_t digits[16][4] = {
     {1, 1, 0, 0}, {1, 1, 0, 1}, {1, 1, 1, 0}, {1, 1, 1, 1},
 };
 
-static wwvb_write_reply write_amplitude(uint32_t kind, uint32_t spring, uint32_t autumn,
-                                        uint32_t leap_month, int32_t leap_sign, uint32_t notice,
-                                        uint32_t minute, int32_t ut1_sign, uint32_t ut1_tenths,
-                                        uint8_t *out, size_t out_length)
+static wwvb_write_reply fast_write_amplitude(uint32_t kind, uint32_t spring, uint32_t autumn,
+                                             uint32_t leap_month, int32_t leap_sign, uint32_t notice,
+                                             uint32_t minute, int32_t ut1_sign, uint32_t ut1_tenths,
+                                             uint8_t *out, size_t out_length)
 {
     struct plan p = {kind, spring, autumn, leap_month, leap_sign, notice};
     wwvb_write_reply r = {0, 0};
@@ -466,7 +598,7 @@ static wwvb_write_reply write_amplitude(uint32_t kind, uint32_t spring, uint32_t
 }
 
 /* Whether eight symbols from a second on have what is fixed there. */
-static int fits(const uint8_t *symbols, size_t at)
+static int eight_fit(const uint8_t *symbols, size_t at)
 {
     uint64_t got, want, mask;
 
@@ -482,7 +614,7 @@ static uint32_t digit(const uint8_t *s)
     return (uint32_t)s[0] << 3 | (uint32_t)s[1] << 2 | (uint32_t)s[2] << 1 | s[3];
 }
 
-static wwvb_amplitude_reply read_amplitude(const uint8_t *s, size_t length)
+static wwvb_amplitude_reply fast_read_amplitude(const uint8_t *s, size_t length)
 {
     wwvb_amplitude_reply r = {0, 0, 0, 0, 0, 0, 0, 0, 0, 0, 0, 0};
     uint32_t minute_units, hour_units, day_tens, day_units, tenths, year_tens, year_units;
@@ -492,8 +624,8 @@ static wwvb_amplitude_reply read_amplitude(const uint8_t *s, size_t length)
     r.refusal = WWVB_BAD_SYMBOLS;
     if (length < 59 || length > 61)
         return r;
-    if (!fits(s, 0) || !fits(s, 8) || !fits(s, 16) || !fits(s, 24) || !fits(s, 32) || !fits(s, 40)
-        || !fits(s, 48) || !fits(s, 51))
+    if (!eight_fit(s, 0) || !eight_fit(s, 8) || !eight_fit(s, 16) || !eight_fit(s, 24) || !eight_fit(s, 32)
+        || !eight_fit(s, 40) || !eight_fit(s, 48) || !eight_fit(s, 51))
         return r;
     if ((length > 59 && s[59] != 2) || (length > 60 && s[60] != 2))
         return r;
@@ -541,5 +673,5 @@ static wwvb_amplitude_reply read_amplitude(const uint8_t *s, size_t length)
 
 const struct codec PLAIN = {
     PLAIN_LABEL, write_recording, read_recording, minute_to_date, fast_minute_to_date, date_to_minute, local_date,
-    write_amplitude, read_amplitude,
+    write_amplitude, fast_write_amplitude, read_amplitude, fast_read_amplitude,
 };

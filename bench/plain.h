@@ -1,4 +1,5 @@
-/* A plain C codec to measure against: straightforward code from documents 01 and 02, with the library's calls. */
+/* A plain C codec to measure against: straightforward code from documents 01 and 02, with the library's calls, and for
+   some of them code for speed alone too. */
 #ifndef PLAIN_H
 #define PLAIN_H
 
@@ -9,7 +10,13 @@
 #define PLAIN_LABEL "plain C"
 #endif
 
-/* The calls of the library that are measured. */
+typedef wwvb_write_reply write_amplitude_call(uint32_t kind, uint32_t spring, uint32_t autumn, uint32_t leap_month,
+                                              int32_t leap_sign, uint32_t notice, uint32_t minute, int32_t ut1_sign,
+                                              uint32_t ut1_tenths, uint8_t *out, size_t out_length);
+typedef wwvb_amplitude_reply read_amplitude_call(const uint8_t *symbols, size_t symbols_length);
+
+/* The calls of the library that are measured. A call fast_.. is one written for speed alone; of the library it is the
+   call without fast_. */
 struct codec {
     const char *label;
     wwvb_write_reply (*write_recording)(uint32_t kind, uint32_t spring, uint32_t autumn, uint32_t leap_month,
@@ -17,14 +24,13 @@ struct codec {
                                         uint8_t *out, size_t out_length);
     wwvb_read_reply (*read_recording)(const uint8_t *bits, size_t bits_length, uint8_t *entries, size_t entries_length);
     wwvb_date_reply (*minute_to_date)(uint32_t minute);
-    wwvb_date_reply (*fast_minute_to_date)(uint32_t minute); /* written for speed alone; of the library, the same call */
+    wwvb_date_reply (*fast_minute_to_date)(uint32_t minute);
     wwvb_minute_reply (*date_to_minute)(uint32_t year, uint32_t month, uint32_t day, uint32_t hour, uint32_t minute);
     wwvb_date_reply (*local_date)(uint32_t minute, uint32_t state, int32_t offset, uint32_t hour);
-    wwvb_write_reply (*write_amplitude)(uint32_t kind, uint32_t spring, uint32_t autumn,
-                                        uint32_t leap_month, int32_t leap_sign, uint32_t notice,
-                                        uint32_t minute, int32_t ut1_sign, uint32_t ut1_tenths,
-                                        uint8_t *out, size_t out_length);
-    wwvb_amplitude_reply (*read_amplitude)(const uint8_t *symbols, size_t symbols_length);
+    write_amplitude_call *write_amplitude;
+    write_amplitude_call *fast_write_amplitude;
+    read_amplitude_call *read_amplitude;
+    read_amplitude_call *fast_read_amplitude;
 };
 
 extern const struct codec PLAIN;
