@@ -240,7 +240,7 @@ static size_t read_minutes_fast(const struct codec *c, uint32_t n)
 /* The rows in which the library takes longer than some plain codec. */
 static char slower[2000];
 
-/* The rows that measure another function for what the row before measures; below the table they bear that row's name. */
+/* How a row is named that measures another function than the row before; below the table it bears that row's name. */
 #define THE_SAME "the same"
 
 /* A row of the table; n is the frames in a recording, or 0. */
@@ -401,7 +401,7 @@ static void read_changed(uint8_t *s, size_t length)
 }
 
 /* The last minute of a month with a leap second of each sign and without: written with space enough and without, read
-   in each length, right or not, with the warning and without. */
+   in each length, right or not, with the warning and without, and with a last symbol that is wrong. */
 static void month_end_all(uint32_t month)
 {
     uint32_t next = month + 1;
@@ -419,12 +419,19 @@ static void month_end_all(uint32_t month)
             w.refusal = w.space < (size_t)(60 + w.leap_sign) ? WWVB_NO_BIT_SPACE : WWVB_OK;
             write_minute_all(&w);
         }
-        memset(symbols[0] + 59, 2, sizeof symbols[0] - 59);
-        for (length = WWVB_MIN_FRAME - 1; length <= WWVB_MAX_FRAME + 1; length++) {
+        memset(symbols[0] + WWVB_MIN_FRAME, 9, sizeof symbols[0] - WWVB_MIN_FRAME);
+        for (length = WWVB_MIN_FRAME - 1; length <= sizeof symbols[0]; length++) {
+            uint8_t *last = &symbols[0][length - 1];
+
+            if (length > WWVB_MIN_FRAME)
+                *last = 2;
             read_minute_all(symbols[0], length);
             symbols[0][56] ^= 1;
             read_minute_all(symbols[0], length);
             symbols[0][56] ^= 1;
+            *last ^= 3;
+            read_minute_all(symbols[0], length);
+            *last ^= 3;
         }
     }
 }

@@ -1,8 +1,8 @@
 /*
  * Straightforward code: parity by masks and the compiler's parity of a word, correction by a table of syndromes, code
  * words by tables and their inverses, bits moved one at a time, the calendar by cycles of four years, and the plan
- * asked anew for each frame; in the amplitude code a table of what each second is, and symbols checked and moved one at
- * a time. Three functions are written for speed alone instead, are named fast_.., and have rows of their own.
+ * asked anew for each frame. In the amplitude code one table has what each second is, and symbols are checked and
+ * moved one at a time. The functions fast_.. are other versions, written for speed alone, with rows of their own.
  *
  * PLAIN names the codec that this file makes and PLAIN_LABEL is its column's heading, so that one program can hold it
  * several times, each built by another compiler or with other flags.
@@ -519,7 +519,7 @@ static wwvb_amplitude_reply read_amplitude(const uint8_t *s, size_t length)
     return r;
 }
 
-/* ---- the same for speed alone: symbols are checked eight at a time and moved a digit at a time */
+/* ---- the same for speed alone: symbols checked eight at a time by masks, digits written from a table */
 
 /* A minute with 0 in every field: what stands at the fixed seconds. */
 static const uint8_t blank[61] = {
