@@ -21,7 +21,7 @@ width (mark ∷ ps) = suc (width ps)
 width (blank ∷ ps) = suc (width ps)
 width (high n ∷ ps) = n + width ps
 
-drop-take : (n w : ℕ) (s : List ℕ) → drop n (take (n + w) s) ≡ take w (drop n s)
+pub drop-take : (n w : ℕ) (s : List ℕ) → drop n (take (n + w) s) ≡ take w (drop n s)
 drop-take zero w s = let e : zero + w ≡ w = omega arith in rw e
 drop-take (suc n) w [] = let e : suc n + w ≡ suc (n + w) = omega arith in rw e (sym (take-nil w))
 drop-take (suc n) w (x ∷ s) = let e : suc n + w ≡ suc (n + w) = omega arith in rw e (drop-take n w s)
