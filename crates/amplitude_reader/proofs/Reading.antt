@@ -2,7 +2,7 @@
 -- Assumes nothing.
 use Prim.Native.Nat.{ℕ, _+_, _-_, _*_, _≤_, _<_}
 use mathlib.Core.Bool.{Bool, true, false, _&&_}
-use mathlib.Core.List.{List}
+use mathlib.Core.List.{List, [], _∷_}
 use mathlib.Core.Path.{_≡_, refl, sym, ap, _∙_}
 use native.Mathlib.Omega.{arith}
 use lib.Dec.{leb, eqb}
@@ -14,7 +14,7 @@ use borrow.Author.Tests.{leb-true}
 use Rattle.bits.specs.Bits.{pick, all}
 use Rattle.bits.proofs.Tests.{head-true, tail-true}
 use Rattle.questions.specs.Questions.{asked}
-use Rattle.symbols.specs.Symbols.{fits}
+use Rattle.symbols.specs.Symbols.{fits, numbers}
 use Rattle.gregorian.specs.Gregorian.{firstYear, yearCount, leapYear, monthLengths, monthsOf, yearLength, yearLengths, before}
 use Rattle.gregorian.proofs.Years.{before-closed}
 use Rattle.calendar.specs.Calendar.{lastOfMonth}
@@ -23,8 +23,10 @@ use Rattle.amplitude_rules.specs.Reading.{isMark, fieldsFrom, signOf, layoutFit
 use Rattle.amplitude_rules.specs.declared.Fields.{Fields}
 use Rattle.amplitude_rules.specs.declared.Values.{Values}
 use Rattle.amplitude_rules.proofs.Facts.{Real, real}
-use Rattle.amplitude_row.specs.Row.{lowNumbers}
-use Rattle.amplitude_row.proofs.Rows.{low-is}
+use Rattle.amplitude_row.specs.declared.Row.{Row}
+use Rattle.amplitude_row.specs.declared.RowAnswer.{RowAnswer}
+use Rattle.amplitude_row.specs.declared.RowAnswer.the-variants.{Fits, Differs}
+use Rattle.amplitude_row.specs.Row.{rowNumbers, answerNumbers, numbersIf}
 use Rattle.amplitude_reader.specs.Answer.{fieldsAnswer}
 
 -- a year's length by its leap-year mark, which is 0 or 1
@@ -111,35 +113,34 @@ module _ (v : List ℕ) (n : ℕ) where
       unfolding fieldsAnswer
       all-fit k = rw (d, real-is true h, fits-is true k) (ap accepted values-is)
 
--- question 17
-module _ (s : List ℕ) where
-  pub no-layout : layoutFits s ≡ false → refused 17 ≡ readAmplitude s
+-- question 17: what its answer says
+some : (d : Row) (b : Bool) (t : List ℕ) → rowNumbers d ≡ numbersIf b t → (b ≡ true) × (rowNumbers d ≡ numbers table1 t)
+unfolding numbersIf
+some d true t e = (refl, e)
+some d false t e = let z : _≡_ {A = ℕ} 14 0 = ap length e in absurd (omega arith)
+
+none : (b : Bool) (t : List ℕ) → [] ≡ numbersIf b t → b ≡ false
+unfolding numbersIf numbers table1
+none true t e = let z : _≡_ {A = ℕ} 0 14 = ap length e in absurd (omega arith)
+none false t e = refl
+
+module _ (s : List ℕ) (r : RowAnswer) (e : answerNumbers r ≡ numbersIf (layoutFits s) (take 59 s)) where
+  pub no-layout : r ≡ Differs → refused 17 ≡ readAmplitude s
   unfolding readAmplitude readQuestions asked
-  no-layout h = rw h
+  no-layout q = rw (none (layoutFits s) (take 59 s) (ap answerNumbers (sym q) ∙ e))
 
-  module _ (h : layoutFits s ≡ true) where
-    abbrev long : Bool
-    long = leb 59 (length s)
-
-    abbrev short : Bool
-    short = leb (length s) 61
-
-    abbrev row : Bool
-    row = fits table1 (take 59 s)
-
-    three-true : (long && short && row) ≡ true
-    unfolding layoutFits
-    three-true = head-true (long && short && row) (all isMark (drop 59 s)) h
-
-    pub long-enough : 59 ≤ length s
-    long-enough = leb-true 59 (length s) (head-true long short (head-true (long && short) row three-true))
+  module _ (d : Row) (q : r ≡ Fits d) where
+    both : (layoutFits s ≡ true) × (rowNumbers d ≡ numbers table1 (take 59 s))
+    both = some d (layoutFits s) (take 59 s) (ap answerNumbers (sym q) ∙ e)
 
     pub short-enough : length s ≤ 61
-    short-enough = leb-true (length s) 61 (tail-true long short (head-true (long && short) row three-true))
+    unfolding layoutFits
+    short-enough =
+        let long = leb 59 (length s) in
+        let short = leb (length s) 61 in
+        let row = fits table1 (take 59 s) in
+        leb-true (length s) 61 (tail-true long short (head-true (long && short) row (head-true (long && short && row) (all isMark (drop 59 s)) (both .0))))
 
-    row-fits : row ≡ true
-    row-fits = tail-true (long && short) row three-true
-
-    pub by-fields : (v : List ℕ) → v ≡ lowNumbers (take 59 s) → fieldsAnswer v (length s) ≡ readAmplitude s
+    pub by-fields : fieldsAnswer (rowNumbers d) (length s) ≡ readAmplitude s
     unfolding readAmplitude readQuestions asked fieldsFit fieldsAnswer numbersIn
-    by-fields v e = rw (h, e ∙ low-is (take 59 s) row-fits)
+    by-fields = rw (both .0, both .1)

@@ -10,6 +10,7 @@ ghost use Rattle.amplitude_rules.specs.Reading.{fieldsFrom, signOf, valuesOf, d
 ghost use Rattle.amplitude_row.specs.Row.{rowNumbers};
 ghost use Rattle.amplitude_reader.specs.Answer.{answerOf, fieldsAnswer};
 use amplitude_row::Row;
+use amplitude_row::RowAnswer;
 use amplitude_rules::Fields;
 use amplitude_rules::Values;
 use calendar::Date;
@@ -181,10 +182,9 @@ fn read_row(d: Row, seconds: u32) -> ReadAnswer
 pub fn read_minute(symbols: &[u8]) -> ReadAnswer
     ensures { λ r. ⌜ answerOf r ≡ readAmplitude (now (symbols .entry)) ⌝ }
 {
-    if amplitude_row::has_layout(symbols) {
-        let row = amplitude_row::row_in(symbols);
-        read_row(row, symbols.len() as u32)
-    } else {
-        ReadAnswer::BadSymbols
+    let answer = amplitude_row::read_layout(symbols);
+    match answer {
+        RowAnswer::Fits(row) => read_row(row, symbols.len() as u32),
+        RowAnswer::Differs => ReadAnswer::BadSymbols,
     }
 }

@@ -1,38 +1,48 @@
 -- `amplitude_reader::read_minute` meets its contract.
 -- Assumes nothing.
-use mathlib.Core.Path.{sym, _∙_}
+use mathlib.Core.Path.{_∙_}
 use native.Mathlib.Omega.{arith}
-use Rattle.amplitude_row.specs.Row.{rowNumbers}
-use Rattle.amplitude_reader.proofs.Reading.{no-layout, long-enough, short-enough, by-fields}
+use Rattle.amplitude_reader.proofs.Reading.{no-layout, short-enough, by-fields}
 use borrow.Author.Needs.{needs}
 use Rattle.amplitude_reader.proofs.read_minute.Statement.{statement}
 use Rattle.amplitude_reader.proofs.read_minute.Tie as tie
 
-has-layout-requires : tie.Need-has-layout-requires
-has-layout-requires c κs = search needs
+read-layout-requires : tie.Need-read-layout-requires
+read-layout-requires c κs = search needs
 
-row-in-requires : tie.Need-row-in-requires
-row-in-requires c κs = long-enough (c .before .before .before .args .symbols .now) (sym (c .before .has-layout .ensures) ∙ c .if1 .taken)
+enum-known-answer : tie.Need-enum-known-answer
+enum-known-answer c = search needs
 
 cast-read-row : tie.Need-cast-read-row
-cast-read-row c = omega (arith, short-enough (c .before .before .before .before .args .symbols .now) (sym (c .before .before .has-layout .ensures) ∙ c .before .if1 .taken))
+cast-read-row c =
+    let a = c .before .before .before in
+    omega (arith, short-enough (a .before .before .args .symbols .now) (a .read-layout .result) (a .read-layout .ensures) _ (c .before .answer .given .1))
 
 read-row-requires : tie.Need-read-row-requires
 read-row-requires c κs = search needs
 
+enum-told : tie.Need-enum-told
+enum-told c = search needs
+
 returns : tie.Need-returns
-returns c = c .read-row .ensures ∙ by-fields (c .before .before .before .before .before .args .symbols .now) (sym (c .before .before .before .has-layout .ensures) ∙ c .before .before .if1 .taken) (rowNumbers (c .before .row-in .result)) (c .before .row-in .ensures)
+returns c =
+    let a = c .before .before .before .before in
+    c .read-row .ensures
+    ∙ by-fields (a .before .before .args .symbols .now) (a .read-layout .result) (a .read-layout .ensures) _ (c .before .before .answer .given .1)
 
 returns-2 : tie.Need-returns-2
-returns-2 c = no-layout (c .before .before .before .args .symbols .now) (sym (c .before .has-layout .ensures) ∙ c .if1 .left)
+returns-2 c =
+    let a = c .before .before in
+    no-layout (a .before .before .args .symbols .now) (a .read-layout .result) (a .read-layout .ensures) (c .enum-told .given .1)
 
 pub read-minute-spec : {M : Type 1} → statement M
 read-minute-spec =
     tie.close
     (tie.spec
-    has-layout-requires
-    row-in-requires
+    read-layout-requires
+    enum-known-answer
     cast-read-row
     read-row-requires
+    enum-told
     returns
     returns-2)
