@@ -1,10 +1,8 @@
 -- `amplitude_row::line` meets its contract.
 -- Assumes nothing.
-use Prim.Native.Nat.{_+_, _-_}
-use mathlib.Core.Path.{refl, sym, _∙_}
-use native.Mathlib.Omega.{arith}
+use mathlib.Core.Path.{sym, _∙_}
 use borrow.Author.Tests.{eq-eqb, ne-eqb}
-use Rattle.amplitude_row.proofs.ByLine.{no-mark, bits-after, no-bits-after}
+use Rattle.amplitude_row.proofs.ByLine.{no-mark, mark-and-bits, no-bits}
 use borrow.Author.Needs.{needs}
 use Rattle.amplitude_row.proofs.line.Statement.{statement}
 use Rattle.amplitude_row.proofs.line.Tie as tie
@@ -14,14 +12,11 @@ shared-slice-read-if1 c = search needs
 
 returns : tie.Need-returns
 returns c =
-    let a = c .before .before .before .args in
-    no-mark (a .s .now) (a .second) 9 (a .second + 10 - (a .second + 1)) (omega arith) (ne-eqb _ 2 (c .if1 .taken))
+    let z = c .before .before .before in
+    no-mark (z .args .s .now) (z .args .from) (z .args .to) (z .pre .0) (ne-eqb _ 2 (c .if1 .taken))
 
 add-gather : tie.Need-add-gather
 add-gather c = search needs
-
-add-gather-2 : tie.Need-add-gather-2
-add-gather-2 c = search needs
 
 sub-gather : tie.Need-sub-gather
 sub-gather c = search needs
@@ -43,14 +38,15 @@ enum-told c = search needs
 
 returns-2 : tie.Need-returns-2
 returns-2 c =
-    let a = c .before .before .before .before .before .before .before .before .args in
     let g = c .before .before .before in
-    bits-after (a .s .now) (a .second) 9 (a .second + 10 - (a .second + 1)) (omega arith) _ (eq-eqb _ 2 (g .before .before .if1 .left)) (sym (g .gather .ensures) ∙ c .before .gathered .given .1)
+    let z = g .before .before .before .before .before in
+    mark-and-bits (z .args .s .now) (z .args .from) (z .args .to) (z .pre .0) _ (eq-eqb _ 2 (g .before .before .if1 .left)) (sym (g .gather .ensures) ∙ c .before .gathered .given .1)
 
 returns-3 : tie.Need-returns-3
 returns-3 c =
-    let a = c .before .before .before .before .before .before .before .args in
-    no-bits-after (a .s .now) (a .second) 9 (a .second + 10 - (a .second + 1)) (omega arith) (sym (c .before .before .gather .ensures) ∙ c .enum-told .given .1)
+    let g = c .before .before in
+    let z = g .before .before .before .before .before in
+    no-bits (z .args .s .now) (z .args .from) (z .args .to) (z .pre .0) (sym (g .gather .ensures) ∙ c .enum-told .given .1)
 
 pub line-spec : {M : Type 1} → statement M
 line-spec =
@@ -59,7 +55,6 @@ line-spec =
     shared-slice-read-if1
     returns
     add-gather
-    add-gather-2
     sub-gather
     part-gather-start
     part-gather-end

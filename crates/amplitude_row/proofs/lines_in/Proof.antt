@@ -5,9 +5,6 @@ use borrow.Author.Needs.{needs}
 use Rattle.amplitude_row.proofs.lines_in.Statement.{statement}
 use Rattle.amplitude_row.proofs.lines_in.Tie as tie
 
-first-line-requires : tie.Need-first-line-requires
-first-line-requires c κs = search needs
-
 line-requires : tie.Need-line-requires
 line-requires c κs = search needs
 
@@ -23,20 +20,23 @@ line-requires-4 c κs = search needs
 line-requires-5 : tie.Need-line-requires-5
 line-requires-5 c κs = search needs
 
+line-requires-6 : tie.Need-line-requires-6
+line-requires-6 c κs = search needs
+
 returns : tie.Need-returns
 unfolding linesIn
 returns c =
     let d = c .before .before .before in
-    rw (d .before .before .first-line .ensures, d .before .line .ensures, d .line2 .ensures, c .before .before .line3 .ensures, c .before .line4 .ensures, c .line5 .ensures)
+    rw (d .before .before .line .ensures, d .before .line2 .ensures, d .line3 .ensures, c .before .before .line4 .ensures, c .before .line5 .ensures, c .line6 .ensures)
 
 pub lines-in-spec : {M : Type 1} → statement M
 lines-in-spec =
     tie.close
     (tie.spec
-    first-line-requires
     line-requires
     line-requires-2
     line-requires-3
     line-requires-4
     line-requires-5
+    line-requires-6
     returns)
