@@ -1,12 +1,12 @@
 -- Laws of reading: real fields, their values, and the two questions.
 -- Assumes nothing.
-use Prim.Native.Nat.{ℕ, _+_, _-_, _*_, _≤_, _<_}
+use Prim.Native.Nat.{ℕ, _+_, _≤_, _<_}
 use mathlib.Core.Bool.{Bool, true, false, _&&_}
-use mathlib.Core.List.{List, [], _∷_}
+use mathlib.Core.List.{List, []}
 use mathlib.Core.Path.{_≡_, refl, sym, ap, _∙_}
 use native.Mathlib.Omega.{arith}
 use lib.Dec.{leb, eqb}
-use lib.IntN.{ℤ, pos, negsuc}
+use lib.IntN.{pos, negsuc}
 use lib.ListN.{length, take, drop, getD}
 use mir.Syntax.{w32}
 use mir.Val.{ofZ, toZ}
@@ -22,7 +22,7 @@ use Rattle.amplitude_rules.specs.Amplitude.{table1, leapMark, lengthFits}
 use Rattle.amplitude_rules.specs.Reading.{isMark, fieldsFrom, signOf, layoutFits, numbersIn, valuesOf, decimalDigits, realFields, fieldsFit, readQuestions, accepted, refused, readAmplitude}
 use Rattle.amplitude_rules.specs.declared.Fields.{Fields}
 use Rattle.amplitude_rules.specs.declared.Values.{Values}
-use Rattle.amplitude_rules.proofs.Facts.{Real, real}
+use Rattle.amplitude_rules.proofs.Facts.{real}
 use Rattle.amplitude_row.specs.declared.Row.{Row}
 use Rattle.amplitude_row.specs.declared.RowAnswer.{RowAnswer}
 use Rattle.amplitude_row.specs.declared.RowAnswer.the-variants.{Fits, Differs}
