@@ -28,8 +28,8 @@
  * place 0. Judge by a minute only if the reading is complete (refusal 0) and at least one of its
  * frames has place 0. Where the start was searched for, use two frames in order: LIVE INPUT in
  * wwvb(3) says how.
- * The amplitude code has no check bits: one changed symbol may give another well-formed minute,
- * and no refusal tells of it. It is for wall clocks. Do not judge by its minutes.
+ * The amplitude code has no check bits: one wrong symbol can make another legal minute, and no
+ * refusal tells of it. It is for wall clocks. Do not judge by its minutes.
  *
  * The library has eight calls. Everything else is static inline in this file: structs for plans
  * and entries, names and texts of refusals.
@@ -384,8 +384,8 @@ WWVB_MUST_USE wwvb_write_reply wwvb_write_amplitude(uint32_t kind, uint32_t spri
  * has 60. Daylight state and warning are not checked against any plan. Two digits of the year are
  * sent, and the year given is 2000 to 2099.
  * A minute that wwvb_write_amplitude writes is read as sent: it has the date, the daylight state
- * and the length of the same minute's frame. But the code has no check bits: one changed symbol
- * may give another well-formed minute.
+ * and the length of the same minute's frame. But the code has no check bits: one wrong symbol can
+ * make another legal minute.
  */
 WWVB_MUST_USE wwvb_amplitude_reply wwvb_read_amplitude(const uint8_t *symbols,
                                                        size_t symbols_length);

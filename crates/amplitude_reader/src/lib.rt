@@ -97,7 +97,7 @@ fn is_sign(bits: u32) -> bool
     bits == 0b010
 }
 
-// Whether the fields are real, with the year's leap mark.
+// Whether the fields are real, with the year's leap-year mark.
 fn has_real_fields(x: Fields) -> bool
     ensures { λ r. ⌜ r ≡ realFields x ⌝ }
 {

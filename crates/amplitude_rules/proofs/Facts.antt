@@ -18,7 +18,7 @@ use Rattle.amplitude_rules.specs.declared.Fields.{Fields}
 use Rattle.amplitude_rules.specs.declared.Values.{Values}
 use Rattle.amplitude_rules.specs.Amplitude.{signBits, legalSign, legalUT1, leapMark, lengthFits, legalValues}
 use Rattle.amplitude_rules.specs.Reading.{signOf, realFields}
-use Rattle.amplitude_rules.specs.Theorems.{LegalUT1}
+use Rattle.amplitude_rules.specs.Theorems.{UT1Limits}
 
 -- values that fit each other, as facts
 pub record Legal (r : Values) : Type 0 where
@@ -148,9 +148,9 @@ unfolding legalSign
 is-sign z (inl e) = rw e
 is-sign z (inr e) = rw e
 
-pub legal-ut1 : LegalUT1
+pub ut1-limits : UT1Limits
 unfolding legalUT1
-legal-ut1 sign tenths = (
+ut1-limits sign tenths = (
   (λ h. let b = both-true (legalSign sign) (leb tenths 9) h in (sign-is sign (b .0), leb-true tenths 9 (b .1))),
   (λ h. and-true (is-sign sign (h .0)) (le-leb tenths 9 (h .1))),
 )

@@ -23,7 +23,7 @@ use Rattle.amplitude_rules.specs.declared.Values.{Values}
 use Rattle.amplitude_rules.specs.Amplitude.{legalUT1, symbols}
 use Rattle.amplitude_rules.specs.Reading.{layoutFits, valuesIn, fieldsFit, readQuestions, refused, accepted, readAmplitude}
 use Rattle.amplitude_rules.specs.Writing.{valuesAt, writeQuestions, writeAmplitude, symbolsWritten}
-use Rattle.amplitude_rules.specs.Theorems.{AmplitudeReadOrder, AmplitudeReadAccepted, AmplitudeReadRefused, AmplitudeReadAnswers, AmplitudeReadFacts, AmplitudeWriteOrder, AmplitudeWriteAccepted, AmplitudeWriteRefused, AmplitudeWriteAnswers, AmplitudeWriteFacts, AmplitudeWriteReasons, Done, AmplitudeWriteDone, AmplitudeWriteUndone}
+use Rattle.amplitude_rules.specs.Theorems.{AmplitudeReadOrder, AmplitudeReadAccepted, AmplitudeReadRefused, AmplitudeReadAnswers, AmplitudeReadFacts, AmplitudeWriteOrder, AmplitudeWriteAccepted, AmplitudeWriteRefused, AmplitudeWriteAnswers, WriteReasons, AmplitudeWriteFacts, AmplitudeDone, AmplitudeWriteDone, AmplitudeWriteUndone}
 use Rattle.amplitude_rules.proofs.Facts.{Legal}
 use Rattle.amplitude_rules.proofs.ReadBack.{length-of}
 use Rattle.amplitude_rules.proofs.Exact.{not-refused}
@@ -152,8 +152,8 @@ module _ (p : Plan) (t : ℕ) (sign : ℤ) (tenths space : ℕ) where
       there (inr (a, inr (b, inr (c, inl h)))) = (a, is-early b, c, leb-false (lengthAt p t) space (h .1))
       there (inr (a, inr (b, inr (c, inr h)))) = absurd (h .1)
 
-pub amplitude-write-reasons : AmplitudeWriteReasons
-amplitude-write-reasons p t sign tenths space =
+pub amplitude-write-facts : AmplitudeWriteFacts
+amplitude-write-facts p t sign tenths space =
     record {
       plan1 = chained (write-refused p t sign tenths space 1) (one p t sign tenths space);
       minute3 = chained (write-refused p t sign tenths space 3) (three p t sign tenths space);
@@ -198,7 +198,7 @@ module _ (p : Plan) (t : ℕ) (sign : ℤ) (tenths : ℕ) (buffer : List ℕ) wh
     unfolding writeQuestions
     reads = sent-reads p t sign tenths (yes .0) (omega (arith, leb-true t maxMinute (yes .1 .0))) (yes .1 .1 .0)
 
-    done : Done p t sign tenths buffer
+    done : AmplitudeDone p t sign tenths buffer
     done =
         record {
           written = front;

@@ -1,13 +1,13 @@
 -- Every statement of specs with its proof: where a proof is missing, this module is not proved.
 -- Assumes nothing.
-use Rattle.amplitude_rules.specs.Theorems.{ReadExactly, SymbolsApart, FieldsOfDate, FlagSeconds, AcceptedLengths, LegalUT1, LayoutSeconds, SentReads, WarnedMonth, BothCodes, Table10, OneSymbolMistaken, LeapMinutes, AmplitudeReadOrder, AmplitudeReadAccepted, AmplitudeReadRefused, AmplitudeReadAnswers, AmplitudeReadFacts, AmplitudeWriteOrder, AmplitudeWriteAccepted, AmplitudeWriteRefused, AmplitudeWriteAnswers, AmplitudeWriteReasons, AmplitudeWriteDone, AmplitudeWriteUndone}
+use Rattle.amplitude_rules.specs.Theorems.{ReadExactly, SymbolsApart, FieldsOfDate, FlagSeconds, AcceptedLengths, UT1Limits, LayoutSeconds, SentReads, WarnedMonth, BothCodes, Table10, OneSymbolMistaken, LeapMinutes, AmplitudeReadOrder, AmplitudeReadAccepted, AmplitudeReadRefused, AmplitudeReadAnswers, AmplitudeReadFacts, AmplitudeWriteOrder, AmplitudeWriteAccepted, AmplitudeWriteRefused, AmplitudeWriteAnswers, AmplitudeWriteFacts, AmplitudeWriteDone, AmplitudeWriteUndone}
 use Rattle.amplitude_rules.proofs.Exact.{read-exactly, symbols-apart, accepted-lengths}
 use Rattle.amplitude_rules.proofs.Dates.{fields-of-date, flag-seconds}
-use Rattle.amplitude_rules.proofs.Facts.{legal-ut1}
+use Rattle.amplitude_rules.proofs.Facts.{ut1-limits}
 use Rattle.amplitude_rules.proofs.Seconds.{layout-seconds}
 use Rattle.amplitude_rules.proofs.Sent.{sent-reads, warned-month, both-codes}
 use Rattle.amplitude_rules.proofs.Examples.{table-10, one-symbol-mistaken, leap-minutes}
-use Rattle.amplitude_rules.proofs.Refusals.{read-order, read-accepted, read-refused, read-answers, amplitude-read-facts, write-order, write-accepted, write-refused, write-answers, amplitude-write-reasons, write-done, write-undone}
+use Rattle.amplitude_rules.proofs.Refusals.{read-order, read-accepted, read-refused, read-answers, amplitude-read-facts, write-order, write-accepted, write-refused, write-answers, amplitude-write-facts, write-done, write-undone}
 
 read-exactly′ : ReadExactly
 read-exactly′ = read-exactly
@@ -24,8 +24,8 @@ flag-seconds′ = flag-seconds
 accepted-lengths′ : AcceptedLengths
 accepted-lengths′ = accepted-lengths
 
-legal-ut1′ : LegalUT1
-legal-ut1′ = legal-ut1
+ut1-limits′ : UT1Limits
+ut1-limits′ = ut1-limits
 
 layout-seconds′ : LayoutSeconds
 layout-seconds′ = layout-seconds
@@ -75,8 +75,8 @@ write-refused′ = write-refused
 write-answers′ : AmplitudeWriteAnswers
 write-answers′ = write-answers
 
-amplitude-write-reasons′ : AmplitudeWriteReasons
-amplitude-write-reasons′ = amplitude-write-reasons
+amplitude-write-facts′ : AmplitudeWriteFacts
+amplitude-write-facts′ = amplitude-write-facts
 
 write-done′ : AmplitudeWriteDone
 write-done′ = write-done

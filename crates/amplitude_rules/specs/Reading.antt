@@ -77,7 +77,7 @@ decimalDigits v =
     leb (getD v 1 0) 9 && leb (getD v 3 0) 9 && leb (getD v 5 0) 9 && leb (getD v 6 0) 9
     && leb (getD v 8 0) 9 && leb (getD v 9 0) 9 && leb (getD v 10 0) 9
 
--- a UT1 sign, a minute, an hour and a day of the year that are real, and the year's leap mark
+-- a UT1 sign, a minute, an hour and a day of the year that are real, and the year's leap-year mark
 unfoldable pub realFields : Fields → Bool
 realFields x =
     (eqb (x .sign) 0b101 || eqb (x .sign) 0b010)

@@ -33,7 +33,7 @@ use Rattle.amplitude_rules.specs.Writing.{warningAt, valuesAt, writeQues
 abbrev pub ReadExactly : Type 0
 ReadExactly = (s : List ℕ) (r : Values) → readAmplitude s ≡ accepted r ↔ ((legalValues r ≡ true) × (s ≡ symbols r))
 
--- different values give different symbols
+-- different values that fit each other have different symbols
 abbrev pub SymbolsApart : Type 0
 SymbolsApart = (q r : Values) → legalValues q ≡ true → legalValues r ≡ true → q ≢ r → symbols q ≢ symbols r
 
@@ -62,8 +62,8 @@ abbrev pub AcceptedLengths : Type 0
 AcceptedLengths = (s : List ℕ) (r : Values) → readAmplitude s ≡ accepted r → LengthOf r
 
 -- UT1 is legal exactly when its sign is +1 or -1 and its tenths are at most 9
-abbrev pub LegalUT1 : Type 0
-LegalUT1 = (sign : ℤ) (tenths : ℕ) → legalUT1 sign tenths ≡ true ↔ (((sign ≡ pos 1) ⊎ (sign ≡ negsuc 0)) × (tenths ≤ 9))
+abbrev pub UT1Limits : Type 0
+UT1Limits = (sign : ℤ) (tenths : ℕ) → legalUT1 sign tenths ≡ true ↔ (((sign ≡ pos 1) ⊎ (sign ≡ negsuc 0)) × (tenths ≤ 9))
 
 -- ---- question 17, second by second
 
@@ -99,7 +99,7 @@ WarnedMonth =
     (p : Plan) (t : ℕ) → legalPlan p ≡ true
     → warningAt p t ≡ 1 ↔ ((p .«leap_sign» ≢ pos 0) × (monthIndex t ≡ p .«leap_month»))
 
--- r and e are what the readers of the two codes give for minute t, and tell the same date, daylight state and length
+-- the values r and the entry e have the date of minute t, and the same daylight state and length
 pub record SameMinute (t : ℕ) (r : Values) (e : Entry) : Type 0 where
   pub date : dateAt (r .minute) ≡ dateAt t
   pub entryDate : dateAt (e .minute) ≡ dateAt t
@@ -207,7 +207,7 @@ AmplitudeWriteAnswers =
     ⊎ ((k : ℕ) × (oneOf writeRefusals k ≡ true) × (writeAmplitude p t sign tenths space ≡ refusedWriting k))
 
 -- without the list: 1 is about the plan, 3 about the minute, 18 about UT1, 4 about the buffer
-pub record AmplitudeWriteFacts (p : Plan) (t : ℕ) (sign : ℤ) (tenths space : ℕ) : Type 0 where
+pub record WriteReasons (p : Plan) (t : ℕ) (sign : ℤ) (tenths space : ℕ) : Type 0 where
   pub plan1 : writeAmplitude p t sign tenths space ≡ refusedWriting 1 ↔ (legalPlan p ≡ false)
   pub minute3 : writeAmplitude p t sign tenths space ≡ refusedWriting 3 ↔ ((legalPlan p ≡ true) × (minuteCount ≤ t))
   pub ut1-18 : writeAmplitude p t sign tenths space ≡ refusedWriting 18 ↔ ((legalPlan p ≡ true) × (t < minuteCount) × (legalUT1 sign tenths ≡ false))
@@ -215,11 +215,11 @@ pub record AmplitudeWriteFacts (p : Plan) (t : ℕ) (sign : ℤ) (tenths space :
       writeAmplitude p t sign tenths space ≡ refusedWriting 4
       ↔ ((legalPlan p ≡ true) × (t < minuteCount) × (legalUT1 sign tenths ≡ true) × (space < lengthAt p t))
 
-abbrev pub AmplitudeWriteReasons : Type 0
-AmplitudeWriteReasons = (p : Plan) (t : ℕ) (sign : ℤ) (tenths space : ℕ) → AmplitudeWriteFacts p t sign tenths space
+abbrev pub AmplitudeWriteFacts : Type 0
+AmplitudeWriteFacts = (p : Plan) (t : ℕ) (sign : ℤ) (tenths space : ℕ) → WriteReasons p t sign tenths space
 
 -- accepted: the symbols stand first in the buffer and read back as sent, and the bytes after them are as before
-pub record Done (p : Plan) (t : ℕ) (sign : ℤ) (tenths : ℕ) (buffer : List ℕ) : Type 0 where
+pub record AmplitudeDone (p : Plan) (t : ℕ) (sign : ℤ) (tenths : ℕ) (buffer : List ℕ) : Type 0 where
   pub written : take (lengthAt p t) (symbolsWritten p t sign tenths buffer) ≡ symbols (valuesAt p t sign tenths)
   pub rest : drop (lengthAt p t) (symbolsWritten p t sign tenths buffer) ≡ drop (lengthAt p t) buffer
   pub length : length (symbolsWritten p t sign tenths buffer) ≡ length buffer
@@ -229,7 +229,7 @@ abbrev pub AmplitudeWriteDone : Type 0
 AmplitudeWriteDone =
     (p : Plan) (t : ℕ) (sign : ℤ) (tenths : ℕ) (buffer : List ℕ)
     → AllYes (writeQuestions p t sign tenths (length buffer))
-    → Done p t sign tenths buffer
+    → AmplitudeDone p t sign tenths buffer
 
 -- refused: the buffer is as it was
 abbrev pub AmplitudeWriteUndone : Type 0
