@@ -1,19 +1,16 @@
 -- The fields of values are those of the date of their minute, and the last four seconds show them.
 -- Assumes nothing.
-use Prim.Native.Nat.{ℕ, _+_, _-_, _*_, _/_, _%_, _^_, _<_}
-use mathlib.Core.Bool.{true}
-use mathlib.Core.Path.{_≡_, refl, sym, ap, _∙_}
+use Prim.Native.Nat.{ℕ, _+_, _-_, _/_, _%_, _^_, _<_}
+use mathlib.Core.Path.{_≡_, refl}
 use native.Mathlib.Nat.{add-sub-cancel}
 use native.Mathlib.Omega.{arith}
-use lib.ListN.{take, drop}
 use Rattle.bits.specs.Bits.{pick, bit, bits}
 use Rattle.symbols.specs.Symbols.{fill}
-use Rattle.gregorian.specs.Gregorian.{firstYear, leapYear, monthsOf, before, yearOfDay}
+use Rattle.gregorian.specs.Gregorian.{firstYear, leapYear, yearOfDay}
 use Rattle.gregorian.proofs.Months.{Placed, placed, year-place, month-place}
-use Rattle.calendar.specs.Calendar.{minuteCount, dateFrom, dateAt}
-use Rattle.amplitude_rules.specs.declared.Values.{Values}
+use Rattle.calendar.specs.Calendar.{dateFrom, dateAt}
 use Rattle.amplitude_rules.specs.Amplitude.{table1, digits, leapMark, fieldsOf, symbols}
-use Rattle.amplitude_rules.specs.Theorems.{DateFields, FieldsOfDate, FlagSeconds}
+use Rattle.amplitude_rules.specs.Theorems.{FieldsOfDate, FlagSeconds}
 use Rattle.amplitude_rules.proofs.Digits.{next}
 use Rattle.amplitude_rules.proofs.Facts.{legal, mark-small}
 

@@ -1,6 +1,6 @@
 -- Accepted symbols are those of the values that are read.
 -- Assumes nothing.
-use Prim.Native.Nat.{ℕ, suc, _+_, _-_, _*_, _/_, _%_, _≤_, _<_}
+use Prim.Native.Nat.{ℕ, suc, _+_, _-_, _/_, _%_, _≤_, _<_}
 use mathlib.Core.Bool.{Bool, true, false, _&&_, _||_}
 use mathlib.Core.Logic.{_⊎_, inl, inr, _≢_}
 use mathlib.Core.List.{List, [], _∷_}
@@ -14,18 +14,17 @@ use Rattle.bits.proofs.Tests.{both-true}
 use Rattle.symbols.specs.Symbols.{fill, fits, numbers}
 use Rattle.symbols.proofs.Laws.{read-fills}
 use Rattle.gregorian.specs.Gregorian.{firstYear, yearCount, dayCount, yearLength, yearLengths, before, yearOfDay}
-use Rattle.gregorian.proofs.Walk.{before-mono, Lies, walk-at}
+use Rattle.gregorian.proofs.Walk.{before-mono, walk-at}
 use Rattle.gregorian.proofs.Months.{years-at}
 use Rattle.gregorian.proofs.Years.{length-years, days-of-years}
 use Rattle.calendar.specs.Calendar.{minuteCount, lastOfMonth}
 use Rattle.plan.specs.Plan.{minFrame, usualFrame, maxFrame}
-use Rattle.questions.specs.Questions.{asked}
 use Rattle.questions.proofs.Laws.{Verdict, all-yes, first-no, verdict, answer, yes-at}
 use Rattle.amplitude_rules.specs.declared.Fields.{Fields}
 use Rattle.amplitude_rules.specs.declared.Values.{Values}
 use Rattle.amplitude_rules.specs.Amplitude.{table1, digits, lengthFits, legalValues, fieldsOf, symbols}
 use Rattle.amplitude_rules.specs.Reading.{isMark, layoutFits, numbersIn, fieldsFrom, fieldsIn, valuesOf, valuesIn, decimalDigits, realFields, fieldsFit, readQuestions, refused, accepted, readAmplitude}
-use Rattle.amplitude_rules.specs.Theorems.{ReadExactly, SymbolsApart, LengthOf, AcceptedLengths}
+use Rattle.amplitude_rules.specs.Theorems.{ReadExactly, SymbolsApart, AcceptedLengths}
 use Rattle.amplitude_rules.proofs.Digits.{digits-fields}
 use Rattle.amplitude_rules.proofs.Facts.{Legal, legal, legal-values, Real, real, sign-forth}
 use Rattle.amplitude_rules.proofs.ReadBack.{read-values}

@@ -16,7 +16,6 @@ use Rattle.symbols.proofs.Laws.{filled-reads}
 use Rattle.gregorian.specs.Gregorian.{firstYear, monthsOf, yearLength, yearLengths, before, yearOfDay}
 use Rattle.gregorian.proofs.Months.{Placed, placed, months-short, year-index, year-rest, year-low, year-rest-is}
 use Rattle.calendar.specs.Calendar.{lastOfMonth}
-use Rattle.plan.specs.Plan.{minFrame, maxFrame}
 use Rattle.amplitude_rules.specs.declared.Values.{Values}
 use Rattle.amplitude_rules.specs.Amplitude.{table1, digits, leapMark, fieldsOf, symbols}
 use Rattle.amplitude_rules.specs.Reading.{isMark, layoutFits, numbersIn, valuesOf, decimalDigits, realFields, fieldsFit, readQuestions, accepted, readAmplitude}

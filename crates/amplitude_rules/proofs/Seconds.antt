@@ -2,19 +2,19 @@
 -- Assumes nothing.
 use Prim.Native.Nat.{ℕ, zero, suc, _+_, _-_, _≤_, _<_}
 use mathlib.Core.Bool.{Bool, true, false, _&&_}
-use mathlib.Core.List.{List, [], _∷_, _++_}
-use mathlib.Core.Path.{_≡_, refl, sym, ap, subst, _∙_}
+use mathlib.Core.List.{List, [], _∷_}
+use mathlib.Core.Path.{_≡_, refl, sym, _∙_}
 use native.Mathlib.Decide.{decLt}
 use native.Mathlib.Omega.{arith}
 use lib.Dec.{T, leb, eqb, eqb→eq}
-use lib.ListN.{length, take, drop, getD, replicate, length-drop}
+use lib.ListN.{length, take, drop, getD, length-drop}
 use lib.Seq.{length-take-le, getD-take, getD-drop}
 use borrow.Author.Tests.{le-leb, leb-true}
 use Rattle.bits.specs.Bits.{pick, all}
 use Rattle.bits.proofs.Tests.{both-true, and-true, upto, upto-at}
 use Rattle.questions.specs.Questions.{oneOf}
 use Rattle.symbols.specs.Symbols.{fits}
-use Rattle.symbols.proofs.Places.{kinds, isKind, fits-each, EachAt, each-at, at-each}
+use Rattle.symbols.proofs.Places.{kinds, isKind, fits-each, each-at, at-each}
 use Rattle.amplitude_rules.specs.Amplitude.{table1}
 use Rattle.amplitude_rules.specs.Reading.{isMark, layoutFits}
 use Rattle.amplitude_rules.specs.Theorems.{markers, zeros, rightAt, LayoutSeconds}

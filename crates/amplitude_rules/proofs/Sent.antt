@@ -3,7 +3,7 @@
 use Prim.Native.Nat.{ℕ, zero, suc, _≤_, _<_}
 use mathlib.Core.Bool.{Bool, true, false, _&&_}
 use mathlib.Core.Logic.{_↔_, _⊎_, inl, inr, _≢_}
-use mathlib.Core.Path.{_≡_, refl, sym, ap, _∙_}
+use mathlib.Core.Path.{_≡_, refl, sym}
 use native.Mathlib.Omega.{arith}
 use lib.Dec.{leb, eqb}
 use lib.IntN.{ℤ, pos, negsuc}
@@ -25,7 +25,7 @@ use Rattle.format.specs.Received.{withEcho, receivedEntry}
 use Rattle.sequence.proofs.ReadBack.{single-reads-back}
 use Rattle.amplitude_rules.specs.Amplitude.{legalSign, legalUT1, lengthFits, legalValues}
 use Rattle.amplitude_rules.specs.Writing.{warningAt, valuesAt}
-use Rattle.amplitude_rules.specs.Theorems.{SentReads, WarnedMonth, SameMinute, BothCodes}
+use Rattle.amplitude_rules.specs.Theorems.{SentReads, WarnedMonth, BothCodes}
 use Rattle.amplitude_rules.proofs.Facts.{Legal, legal-values}
 use Rattle.amplitude_rules.proofs.ReadBack.{read-values}
 

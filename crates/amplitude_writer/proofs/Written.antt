@@ -1,7 +1,7 @@
 -- Laws of writing: UT1, the fields of values, and markers after a row.
 -- Assumes nothing.
 use Prim.Native.Nat.{ℕ, zero, suc, _+_, _-_, _≤_, _<_}
-use mathlib.Core.Bool.{Bool, true, false, false≢true}
+use mathlib.Core.Bool.{true, false, false≢true}
 use mathlib.Core.List.{List, [], _∷_, _++_, append-nil, append-assoc}
 use mathlib.Core.Path.{_≡_, refl, sym, ap, _∙_}
 use native.Mathlib.Omega.{arith}
@@ -15,8 +15,7 @@ use Rattle.symbols.specs.Symbols.{fill}
 use Rattle.amplitude_rules.specs.Amplitude.{table1, digits, signBits, legalSign, legalValues, fieldsOf, symbols}
 use Rattle.amplitude_rules.specs.declared.Fields.{Fields}
 use Rattle.amplitude_rules.specs.declared.Values.{Values}
-use Rattle.amplitude_rules.proofs.Digits.{Small}
-use Rattle.amplitude_rules.proofs.Facts.{Legal, legal, lengths}
+use Rattle.amplitude_rules.proofs.Facts.{legal, lengths}
 use Rattle.amplitude_rules.proofs.ReadBack.{small}
 
 -- ---- signs

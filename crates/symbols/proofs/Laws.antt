@@ -1,19 +1,19 @@
 -- Filling a row and taking its numbers are inverse.
 -- Assumes nothing.
-use Prim.Native.Nat.{ℕ, zero, suc, _+_, _*_, _/_, _%_, _^_, _≤_, _<_}
-use mathlib.Core.Bool.{Bool, true, false, _&&_, false≢true}
+use Prim.Native.Nat.{ℕ, suc, _+_, _^_, _≤_, _<_}
+use mathlib.Core.Bool.{Bool, true, _&&_}
 use mathlib.Core.List.{List, [], _∷_, _++_}
-use mathlib.Core.Path.{_≡_, refl, sym, ap, ap₂, subst, _∙_}
+use mathlib.Core.Path.{_≡_, refl, sym, ap, ap₂, _∙_}
 use native.Mathlib.Nat.{mod-eq-of-lt}
 use native.Mathlib.Omega.{arith}
 use lib.Dec.{leb, eqb}
-use lib.ListN.{length, take, drop, getD, length-append, length-take, length-drop, take-append-drop}
+use lib.ListN.{length, take, drop, getD, length-append, take-append-drop}
 use lib.Seq.{take-at, drop-at, length-take-le}
-use borrow.Author.Tests.{le-leb, leb-true, eqb-true, eq-eqb}
+use borrow.Author.Tests.{le-leb, leb-true, eqb-true}
 use Rattle.bits.specs.Bits.{bits, number, isBit, all, Binary}
 use Rattle.bits.proofs.Bits.{length-bits, binary-bits, number-bits, number-lt, bits-number}
 use Rattle.bits.proofs.Tests.{head-true, tail-true, and-true, binary, all-binary}
-use Rattle.symbols.specs.Symbols.{Part, mark, blank, high, fill, fits, numbers, Within, FilledReads, ReadFills}
+use Rattle.symbols.specs.Symbols.{mark, blank, high, fill, fits, numbers, FilledReads, ReadFills}
 
 -- ---- the row of numbers
 

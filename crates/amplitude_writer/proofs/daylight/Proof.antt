@@ -1,6 +1,6 @@
 -- `amplitude_writer::daylight` meets its contract.
 -- Assumes nothing.
-use mathlib.Core.Path.{_≡_, sym, ap, subst, _∙_}
+use mathlib.Core.Path.{ap, _∙_}
 use Rattle.codewords.specs.CodeWords.{daylightNumber}
 use Rattle.plan.specs.Plan.{stateAt}
 use Rattle.plan.proofs.Laws.{same-daylight}

@@ -1,11 +1,10 @@
 -- `amplitude_writer::fields_of` meets its contract.
 -- Assumes nothing.
 use Prim.Native.Nat.{_/_}
-use mathlib.Core.Path.{_≡_, sym, ap, subst, _∙_}
 use native.Mathlib.Omega.{arith}
 use Rattle.gregorian.proofs.Months.{placed, year-low, year-rest-is, year-index}
-use Rattle.amplitude_rules.proofs.Facts.{Legal, legal}
-use Rattle.amplitude_rules.specs.Amplitude.{legalSign, fieldsOf}
+use Rattle.amplitude_rules.proofs.Facts.{legal}
+use Rattle.amplitude_rules.specs.Amplitude.{fieldsOf}
 use Rattle.amplitude_writer.proofs.Written.{legal-through}
 use borrow.Author.Needs.{needs}
 use Rattle.amplitude_writer.proofs.fields_of.Statement.{statement}

@@ -1,6 +1,5 @@
 -- `amplitude_writer::put` meets its contract.
 -- Assumes nothing.
-use mathlib.Core.Path.{refl}
 use Rattle.amplitude_rules.specs.Amplitude.{symbols}
 use Rattle.amplitude_row.specs.Row.{rowNumbers}
 use Rattle.amplitude_writer.proofs.Written.{small-parts, values-length, symbols-are}

@@ -1,7 +1,6 @@
 -- `amplitude_writer::sign_bits` meets its contract.
 -- Assumes nothing.
-use mathlib.Core.Path.{_≡_, sym, ap, subst, _∙_}
-use lib.IntN.{ℤ}
+use mathlib.Core.Path.{sym, ap}
 use Rattle.plan.proofs.Laws.{of-bits}
 use Rattle.amplitude_rules.specs.Amplitude.{signBits}
 use Rattle.amplitude_writer.proofs.Written.{minus-bits}

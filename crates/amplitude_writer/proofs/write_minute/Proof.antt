@@ -1,6 +1,6 @@
 -- `amplitude_writer::write_minute` meets its contract.
 -- Assumes nothing.
-use mathlib.Core.Path.{_≡_, sym, ap, subst, _∙_}
+use mathlib.Core.Path.{_≡_, sym, subst, _∙_}
 use mathlib.Core.Bool.{true}
 use lib.IntN.{ℤ}
 use mir.Facts.{toZ-ofZ}

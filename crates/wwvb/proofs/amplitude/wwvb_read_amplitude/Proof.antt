@@ -1,6 +1,6 @@
 -- `wwvb::amplitude::wwvb_read_amplitude` meets its contract.
 -- Assumes nothing.
-use mathlib.Core.Path.{_≡_, refl, sym, ap, ap₂, _∙_}
+use mathlib.Core.Path.{sym, ap, _∙_}
 use Rattle.amplitude_rules.proofs.Exact.{read-exactly}
 use Rattle.amplitude_reader.specs.Answer.{answerOf}
 use Rattle.wwvb.specs.Amplitude.{amplitudeReply}
