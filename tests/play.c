@@ -183,7 +183,7 @@ static struct bytes symbols(struct line *l)
 static int hex_digit(char c)
 {
     static const char all[] = "0123456789abcdef";
-    const char *at = strchr(all, c);
+    const char *at = strchr(all, c >= 'A' && c <= 'F' ? c - 'A' + 'a' : c);
 
     return c && at ? (int)(at - all) : -1;
 }

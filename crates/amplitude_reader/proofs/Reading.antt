@@ -19,7 +19,8 @@ use Rattle.gregorian.specs.Gregorian.{firstYear, yearCount, leapYear, monthLeng
 use Rattle.gregorian.proofs.Years.{before-closed}
 use Rattle.calendar.specs.Calendar.{lastOfMonth}
 use Rattle.amplitude_rules.specs.Amplitude.{table1, leapMark, lengthFits}
-use Rattle.amplitude_rules.specs.Reading.{isMark, fieldsFrom, signOf, layoutFits, numbersIn, valuesOf, decimalDigits, realFields, fieldsFit, readQuestions, accepted, refused, readAmplitude}
+use Rattle.amplitude_rules.specs.Reading.{isMark, fieldsFrom, signOf, layoutFits, numbersIn, valuesOf, decimalDigits, realFields, fieldsFit}
+use Rattle.amplitude_rules.specs.Reading.{readQuestions, accepted, refused, readAmplitude}
 use Rattle.amplitude_rules.specs.declared.Fields.{Fields}
 use Rattle.amplitude_rules.specs.declared.Values.{Values}
 use Rattle.amplitude_rules.proofs.Facts.{real}
@@ -55,23 +56,24 @@ sign-through b = go (eqb b 0b101)
     go true = refl
     go false = refl
 
--- the days before a year are few
-pub days-small : (y : ℕ) → y < yearCount → before yearLengths y < 40_000
-days-small y h = rw (before-closed y (omega arith)) (omega arith)
+-- the bounds of real fields, and of the days before their year, for sums
+pub record Bounds (x : Fields) : Type 0 where
+  pub low : 1 ≤ x .day
+  pub high : x .day ≤ 366
+  pub hour : x .hour < 24
+  pub minute : x .minute < 60
+  pub days : before yearLengths (x .year) < 40_000
 
--- the bounds of real fields, for sums
-module _ (x : Fields) (hy : x .year < yearCount) (h : realFields x ≡ true) where
-  pub day-low : 1 ≤ x .day
-  day-low = real x h .low
-
-  pub day-high : x .day ≤ 366
-  day-high = omega (arith, real x h .high, year-length (firstYear + x .year), mark-small (firstYear + x .year))
-
-  pub hour-high : x .hour < 24
-  hour-high = real x h .hour
-
-  pub minute-high : x .minute < 60
-  minute-high = real x h .minute
+pub bounds : (x : Fields) → x .year < yearCount → realFields x ≡ true → Bounds x
+bounds x hy h =
+    let r = real x h in
+    record {
+      low = r .low;
+      high = omega (arith, r .high, year-length (firstYear + x .year), mark-small (firstYear + x .year));
+      hour = r .hour;
+      minute = r .minute;
+      days = rw (before-closed (x .year) (omega arith)) (omega arith);
+    }
 
 -- decimal digits show a year of the range
 pub year-small : (v : List ℕ) → decimalDigits v ≡ true → fieldsFrom v .year < yearCount

@@ -23,7 +23,8 @@ use Rattle.questions.proofs.Laws.{Verdict, all-yes, first-no, verdict, answer, 
 use Rattle.amplitude_rules.specs.declared.Fields.{Fields}
 use Rattle.amplitude_rules.specs.declared.Values.{Values}
 use Rattle.amplitude_rules.specs.Amplitude.{table1, digits, lengthFits, legalValues, fieldsOf, symbols}
-use Rattle.amplitude_rules.specs.Reading.{isMark, layoutFits, numbersIn, fieldsFrom, fieldsIn, valuesOf, valuesIn, decimalDigits, realFields, fieldsFit, readQuestions, refused, accepted, readAmplitude}
+use Rattle.amplitude_rules.specs.Reading.{isMark, layoutFits, numbersIn, fieldsFrom, fieldsIn, valuesOf, valuesIn, decimalDigits, realFields}
+use Rattle.amplitude_rules.specs.Reading.{fieldsFit, readQuestions, refused, accepted, readAmplitude}
 use Rattle.amplitude_rules.specs.Theorems.{ReadExactly, SymbolsApart, AcceptedLengths}
 use Rattle.amplitude_rules.proofs.Digits.{digits-fields}
 use Rattle.amplitude_rules.proofs.Facts.{Legal, legal, legal-values, Real, real, sign-forth}

@@ -79,7 +79,11 @@ module _ (r : Values) (l : Legal r) where
   unfolding valuesOf fieldsOf
   values-back =
       let t = r .minute in
-      let e : (before yearLengths (yearOfDay (t / 1440) .index) + (yearOfDay (t / 1440) .rest + 1 - 1)) * 1440 + t % 1440 / 60 * 60 + t % 60 ≡ t = omega (arith, year-low (t / 1440) at, year-rest-is (t / 1440) at) in
+      let e : (before yearLengths (yearOfDay (t / 1440) .index) + (yearOfDay (t / 1440) .rest + 1 - 1)) * 1440 + t % 1440 / 60 * 60 + t % 60 ≡ t = omega (
+        arith,
+        year-low (t / 1440) at,
+        year-rest-is (t / 1440) at,
+      ) in
       rw (e, sign-back (r .sign) (l .sign))
 
   decimals-back : decimalDigits (digits (fieldsOf r)) ≡ true

@@ -21,7 +21,10 @@ use Rattle.amplitude_rules.specs.declared.Values.{Values}
 use Rattle.amplitude_rules.specs.Amplitude.{legalUT1, symbols}
 use Rattle.amplitude_rules.specs.Reading.{layoutFits, valuesIn, fieldsFit, readQuestions, refused, accepted, readAmplitude}
 use Rattle.amplitude_rules.specs.Writing.{valuesAt, writeQuestions, writeAmplitude, symbolsWritten}
-use Rattle.amplitude_rules.specs.Theorems.{AmplitudeReadOrder, AmplitudeReadAccepted, AmplitudeReadRefused, AmplitudeReadAnswers, AmplitudeReadFacts, AmplitudeWriteOrder, AmplitudeWriteAccepted, AmplitudeWriteRefused, AmplitudeWriteAnswers, AmplitudeWriteFacts, AmplitudeDone, AmplitudeWriteDone, AmplitudeWriteUndone}
+use Rattle.amplitude_rules.specs.Theorems.{AmplitudeReadOrder, AmplitudeReadAccepted, AmplitudeReadRefused, AmplitudeReadAnswers}
+use Rattle.amplitude_rules.specs.Theorems.{AmplitudeReadFacts, AmplitudeWriteOrder, AmplitudeWriteAccepted, AmplitudeWriteRefused}
+use Rattle.amplitude_rules.specs.Theorems.{AmplitudeWriteAnswers, AmplitudeWriteFacts, AmplitudeDone, AmplitudeWriteDone}
+use Rattle.amplitude_rules.specs.Theorems.{AmplitudeWriteUndone}
 use Rattle.amplitude_rules.proofs.Facts.{Legal}
 use Rattle.amplitude_rules.proofs.ReadBack.{length-of}
 use Rattle.amplitude_rules.proofs.Exact.{not-refused}

@@ -1,13 +1,18 @@
 -- Every statement of specs with its proof: where a proof is missing, this module is not proved.
 -- Assumes nothing.
-use Rattle.amplitude_rules.specs.Theorems.{ReadExactly, SymbolsApart, FieldsOfDate, FlagSeconds, AcceptedLengths, UT1Limits, LayoutSeconds, SentReads, WarnedMonth, BothCodes, Table10, OneSymbolMistaken, LeapMinutes, AmplitudeReadOrder, AmplitudeReadAccepted, AmplitudeReadRefused, AmplitudeReadAnswers, AmplitudeReadFacts, AmplitudeWriteOrder, AmplitudeWriteAccepted, AmplitudeWriteRefused, AmplitudeWriteAnswers, AmplitudeWriteFacts, AmplitudeWriteDone, AmplitudeWriteUndone}
+use Rattle.amplitude_rules.specs.Theorems.{ReadExactly, SymbolsApart, FieldsOfDate, FlagSeconds, AcceptedLengths, UT1Limits, LayoutSeconds}
+use Rattle.amplitude_rules.specs.Theorems.{SentReads, WarnedMonth, BothCodes, Table10, OneSymbolMistaken, LeapMinutes, AmplitudeReadOrder}
+use Rattle.amplitude_rules.specs.Theorems.{AmplitudeReadAccepted, AmplitudeReadRefused, AmplitudeReadAnswers, AmplitudeReadFacts}
+use Rattle.amplitude_rules.specs.Theorems.{AmplitudeWriteOrder, AmplitudeWriteAccepted, AmplitudeWriteRefused, AmplitudeWriteAnswers}
+use Rattle.amplitude_rules.specs.Theorems.{AmplitudeWriteFacts, AmplitudeWriteDone, AmplitudeWriteUndone}
 use Rattle.amplitude_rules.proofs.Exact.{read-exactly, symbols-apart, accepted-lengths}
 use Rattle.amplitude_rules.proofs.Dates.{fields-of-date, flag-seconds}
 use Rattle.amplitude_rules.proofs.Facts.{ut1-limits}
 use Rattle.amplitude_rules.proofs.Seconds.{layout-seconds}
 use Rattle.amplitude_rules.proofs.Sent.{sent-reads, warned-month, both-codes}
 use Rattle.amplitude_rules.proofs.Examples.{table-10, one-symbol-mistaken, leap-minutes}
-use Rattle.amplitude_rules.proofs.Refusals.{read-order, read-accepted, read-refused, read-answers, amplitude-read-facts, write-order, write-accepted, write-refused, write-answers, amplitude-write-facts, write-done, write-undone}
+use Rattle.amplitude_rules.proofs.Refusals.{read-order, read-accepted, read-refused, read-answers, amplitude-read-facts, write-order}
+use Rattle.amplitude_rules.proofs.Refusals.{write-accepted, write-refused, write-answers, amplitude-write-facts, write-done, write-undone}
 
 read-exactly′ : ReadExactly
 read-exactly′ = read-exactly

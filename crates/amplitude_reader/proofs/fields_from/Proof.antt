@@ -34,7 +34,18 @@ wide-requires-5 c κs = search needs
 
 returns : tie.Need-returns
 unfolding fieldsFrom
-returns c = rw (c .before .before .before .before .before .before .before .before .two .ensures, c .before .before .before .before .before .before .before .two2 .ensures, c .before .before .before .before .before .before .three .ensures, c .before .before .before .before .before .wide .ensures, c .before .before .before .before .wide2 .ensures, c .before .before .before .two3 .ensures, c .before .before .wide3 .ensures, c .before .wide4 .ensures, c .wide5 .ensures)
+returns c =
+    rw (
+      c .before .before .before .before .before .before .before .before .two .ensures,
+      c .before .before .before .before .before .before .before .two2 .ensures,
+      c .before .before .before .before .before .before .three .ensures,
+      c .before .before .before .before .before .wide .ensures,
+      c .before .before .before .before .wide2 .ensures,
+      c .before .before .before .two3 .ensures,
+      c .before .before .wide3 .ensures,
+      c .before .wide4 .ensures,
+      c .wide5 .ensures,
+    )
 
 pub fields-from-spec : {M : Type 1} → statement M
 fields-from-spec =

@@ -15,23 +15,62 @@ returns-2 c = let d = c .before .before .before .before .args .d in rw (le-leb (
 
 returns-3 : tie.Need-returns-3
 unfolding decimalDigits
-returns-3 c = let d = c .before .before .before .before .before .before .args .d in rw (le-leb (d .«minute_units») 9 (c .before .before .before .before .if1 .left), le-leb (d .«hour_units») 9 (c .before .before .if2 .left), lt-leb (d .«day_tens») 9 (c .if3 .taken))
+returns-3 c =
+    let d = c .before .before .before .before .before .before .args .d in
+    rw (
+      le-leb (d .«minute_units») 9 (c .before .before .before .before .if1 .left),
+      le-leb (d .«hour_units») 9 (c .before .before .if2 .left),
+      lt-leb (d .«day_tens») 9 (c .if3 .taken),
+    )
 
 returns-4 : tie.Need-returns-4
 unfolding decimalDigits
-returns-4 c = let d = c .before .before .before .before .before .before .before .before .args .d in rw (le-leb (d .«minute_units») 9 (c .before .before .before .before .before .before .if1 .left), le-leb (d .«hour_units») 9 (c .before .before .before .before .if2 .left), le-leb (d .«day_tens») 9 (c .before .before .if3 .left), lt-leb (d .«day_units») 9 (c .if4 .taken))
+returns-4 c =
+    let d = c .before .before .before .before .before .before .before .before .args .d in
+    rw (
+      le-leb (d .«minute_units») 9 (c .before .before .before .before .before .before .if1 .left),
+      le-leb (d .«hour_units») 9 (c .before .before .before .before .if2 .left),
+      le-leb (d .«day_tens») 9 (c .before .before .if3 .left),
+      lt-leb (d .«day_units») 9 (c .if4 .taken),
+    )
 
 returns-5 : tie.Need-returns-5
 unfolding decimalDigits
-returns-5 c = let d = c .before .before .before .before .before .before .before .before .before .before .args .d in rw (le-leb (d .«minute_units») 9 (c .before .before .before .before .before .before .before .before .if1 .left), le-leb (d .«hour_units») 9 (c .before .before .before .before .before .before .if2 .left), le-leb (d .«day_tens») 9 (c .before .before .before .before .if3 .left), le-leb (d .«day_units») 9 (c .before .before .if4 .left), lt-leb (d .«tenths») 9 (c .if5 .taken))
+returns-5 c =
+    let d = c .before .before .before .before .before .before .before .before .before .before .args .d in
+    rw (
+      le-leb (d .«minute_units») 9 (c .before .before .before .before .before .before .before .before .if1 .left),
+      le-leb (d .«hour_units») 9 (c .before .before .before .before .before .before .if2 .left),
+      le-leb (d .«day_tens») 9 (c .before .before .before .before .if3 .left),
+      le-leb (d .«day_units») 9 (c .before .before .if4 .left),
+      lt-leb (d .«tenths») 9 (c .if5 .taken),
+    )
 
 returns-6 : tie.Need-returns-6
 unfolding decimalDigits
-returns-6 c = let d = c .before .before .before .before .before .before .before .before .before .before .before .before .args .d in rw (le-leb (d .«minute_units») 9 (c .before .before .before .before .before .before .before .before .before .before .if1 .left), le-leb (d .«hour_units») 9 (c .before .before .before .before .before .before .before .before .if2 .left), le-leb (d .«day_tens») 9 (c .before .before .before .before .before .before .if3 .left), le-leb (d .«day_units») 9 (c .before .before .before .before .if4 .left), le-leb (d .«tenths») 9 (c .before .before .if5 .left), lt-leb (d .«year_tens») 9 (c .if6 .taken))
+returns-6 c =
+    let d = c .before .before .before .before .before .before .before .before .before .before .before .before .args .d in
+    rw (
+      le-leb (d .«minute_units») 9 (c .before .before .before .before .before .before .before .before .before .before .if1 .left),
+      le-leb (d .«hour_units») 9 (c .before .before .before .before .before .before .before .before .if2 .left),
+      le-leb (d .«day_tens») 9 (c .before .before .before .before .before .before .if3 .left),
+      le-leb (d .«day_units») 9 (c .before .before .before .before .if4 .left),
+      le-leb (d .«tenths») 9 (c .before .before .if5 .left),
+      lt-leb (d .«year_tens») 9 (c .if6 .taken),
+    )
 
 returns-7 : tie.Need-returns-7
 unfolding decimalDigits
-returns-7 c = let d = c .before .before .before .before .before .before .before .before .before .before .before .before .before .args .d in rw (le-leb (d .«minute_units») 9 (c .before .before .before .before .before .before .before .before .before .before .before .if1 .left), le-leb (d .«hour_units») 9 (c .before .before .before .before .before .before .before .before .before .if2 .left), le-leb (d .«day_tens») 9 (c .before .before .before .before .before .before .before .if3 .left), le-leb (d .«day_units») 9 (c .before .before .before .before .before .if4 .left), le-leb (d .«tenths») 9 (c .before .before .before .if5 .left), le-leb (d .«year_tens») 9 (c .before .if6 .left))
+returns-7 c =
+    let d = c .before .before .before .before .before .before .before .before .before .before .before .before .before .args .d in
+    rw (
+      le-leb (d .«minute_units») 9 (c .before .before .before .before .before .before .before .before .before .before .before .if1 .left),
+      le-leb (d .«hour_units») 9 (c .before .before .before .before .before .before .before .before .before .if2 .left),
+      le-leb (d .«day_tens») 9 (c .before .before .before .before .before .before .before .if3 .left),
+      le-leb (d .«day_units») 9 (c .before .before .before .before .before .if4 .left),
+      le-leb (d .«tenths») 9 (c .before .before .before .if5 .left),
+      le-leb (d .«year_tens») 9 (c .before .if6 .left),
+    )
 
 pub has-decimal-digits-spec : {M : Type 1} → statement M
 has-decimal-digits-spec =

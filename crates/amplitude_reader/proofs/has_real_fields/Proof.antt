@@ -24,11 +24,22 @@ returns-2 c = rw (sym (c .before .before .before .is-sign .ensures) ∙ not-fals
 
 returns-3 : tie.Need-returns-3
 unfolding realFields
-returns-3 c = rw (sym (c .before .before .before .before .before .is-sign .ensures) ∙ not-false _ (c .before .before .before .before .if1 .left), lt-ltb _ _ (c .before .before .if2 .left), le-ltb _ _ (c .if3 .taken))
+returns-3 c =
+    rw (
+      sym (c .before .before .before .before .before .is-sign .ensures) ∙ not-false _ (c .before .before .before .before .if1 .left),
+      lt-ltb _ _ (c .before .before .if2 .left),
+      le-ltb _ _ (c .if3 .taken),
+    )
 
 returns-4 : tie.Need-returns-4
 unfolding realFields
-returns-4 c = rw (sym (c .before .before .before .before .before .before .before .is-sign .ensures) ∙ not-false _ (c .before .before .before .before .before .before .if1 .left), lt-ltb _ _ (c .before .before .before .before .if2 .left), lt-ltb _ _ (c .before .before .if3 .left), lt-leb 1 _ (c .if4 .taken))
+returns-4 c =
+    rw (
+      sym (c .before .before .before .before .before .before .before .is-sign .ensures) ∙ not-false _ (c .before .before .before .before .before .before .if1 .left),
+      lt-ltb _ _ (c .before .before .before .before .if2 .left),
+      lt-ltb _ _ (c .before .before .if3 .left),
+      lt-leb 1 _ (c .if4 .taken),
+    )
 
 leap-mark-requires : tie.Need-leap-mark-requires
 leap-mark-requires c κs = search needs
@@ -38,11 +49,29 @@ add-if5 c = omega (arith, c .leap-mark .ensures, mark-small (firstYear + c .befo
 
 returns-5 : tie.Need-returns-5
 unfolding realFields
-returns-5 c = let x = c .before .before .before .before .before .before .before .before .before .before .before .args .x in rw (sym (c .before .before .before .before .before .before .before .before .before .before .is-sign .ensures) ∙ not-false _ (c .before .before .before .before .before .before .before .before .before .if1 .left), lt-ltb _ _ (c .before .before .before .before .before .before .before .if2 .left), lt-ltb _ _ (c .before .before .before .before .before .if3 .left), le-leb 1 _ (c .before .before .before .if4 .left), lt-leb (x .day) (yearLength (firstYear + x .year)) (rw (year-length (firstYear + x .year), ← c .before .before .leap-mark .ensures) (c .if5 .taken)))
+returns-5 c =
+    let x = c .before .before .before .before .before .before .before .before .before .before .before .args .x in
+    rw (
+      sym (c .before .before .before .before .before .before .before .before .before .before .is-sign .ensures) ∙ not-false _ (c .before .before .before .before .before .before .before .before .before .if1 .left),
+      lt-ltb _ _ (c .before .before .before .before .before .before .before .if2 .left),
+      lt-ltb _ _ (c .before .before .before .before .before .if3 .left),
+      le-leb 1 _ (c .before .before .before .if4 .left),
+      lt-leb (x .day) (yearLength (firstYear + x .year)) (rw (year-length (firstYear + x .year), ← c .before .before .leap-mark .ensures) (c .if5 .taken)),
+    )
 
 returns-6 : tie.Need-returns-6
 unfolding realFields
-returns-6 c = let x = c .before .before .before .before .before .before .before .before .before .before .before .before .args .x in rw (sym (c .before .before .before .before .before .before .before .before .before .before .before .is-sign .ensures) ∙ not-false _ (c .before .before .before .before .before .before .before .before .before .before .if1 .left), lt-ltb _ _ (c .before .before .before .before .before .before .before .before .if2 .left), lt-ltb _ _ (c .before .before .before .before .before .before .if3 .left), le-leb 1 _ (c .before .before .before .before .if4 .left), le-leb (x .day) (yearLength (firstYear + x .year)) (rw (year-length (firstYear + x .year), ← c .before .before .before .leap-mark .ensures) (c .before .if5 .left)), c .before .before .before .leap-mark .ensures)
+returns-6 c =
+    let x = c .before .before .before .before .before .before .before .before .before .before .before .before .args .x in
+    let s = c .before .before .before in
+    rw (
+      sym (c .before .before .before .before .before .before .before .before .before .before .before .is-sign .ensures) ∙ not-false _ (c .before .before .before .before .before .before .before .before .before .before .if1 .left),
+      lt-ltb _ _ (c .before .before .before .before .before .before .before .before .if2 .left),
+      lt-ltb _ _ (c .before .before .before .before .before .before .if3 .left),
+      le-leb 1 _ (c .before .before .before .before .if4 .left),
+      le-leb (x .day) (yearLength (firstYear + x .year)) (rw (year-length (firstYear + x .year), ← s .leap-mark .ensures) (c .before .if5 .left)),
+      s .leap-mark .ensures,
+    )
 
 pub has-real-fields-spec : {M : Type 1} → statement M
 has-real-fields-spec =

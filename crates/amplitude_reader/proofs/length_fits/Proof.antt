@@ -21,11 +21,15 @@ returns-2 c = rw (sym (c .before .is-last-of-month .ensures) ∙ not-true _ (c .
 
 returns-3 : tie.Need-returns-3
 unfolding lengthFits
-returns-3 c = rw (sym (c .before .before .is-last-of-month .ensures) ∙ not-false _ (c .before .if2 .left), eq-eqb _ _ (c .before .before .before .if1 .left), eq-eqb _ _ (c .if3 .taken))
+returns-3 c =
+    rw
+    (sym (c .before .before .is-last-of-month .ensures) ∙ not-false _ (c .before .if2 .left), eq-eqb _ _ (c .before .before .before .if1 .left), eq-eqb _ _ (c .if3 .taken))
 
 returns-4 : tie.Need-returns-4
 unfolding lengthFits
-returns-4 c = rw (sym (c .before .before .is-last-of-month .ensures) ∙ not-false _ (c .before .if2 .left), eq-eqb _ _ (c .before .before .before .if1 .left), ne-eqb _ _ (c .if3 .left))
+returns-4 c =
+    rw
+    (sym (c .before .before .is-last-of-month .ensures) ∙ not-false _ (c .before .if2 .left), eq-eqb _ _ (c .before .before .before .if1 .left), ne-eqb _ _ (c .if3 .left))
 
 pub length-fits-spec : {M : Type 1} → statement M
 length-fits-spec =

@@ -21,19 +21,43 @@ has-real-fields-requires : tie.Need-has-real-fields-requires
 has-real-fields-requires c κs = search needs
 
 returns-2 : tie.Need-returns-2
-returns-2 c = no-fields (rowNumbers (c .before .before .before .before .before .args .d)) (c .before .before .before .before .before .args .seconds) (c .before .before .fields-from .result) (sym (c .before .before .before .before .has-decimal-digits .ensures) ∙ not-false _ (c .before .before .before .if1 .left)) (c .before .before .fields-from .ensures) (sym (c .before .has-real-fields .ensures) ∙ not-true _ (c .if2 .taken))
+returns-2 c =
+    let s = c .before .before .before .before .before in
+    let t = c .before .before in
+    no-fields (rowNumbers (s .args .d)) (s .args .seconds) (t .fields-from .result)
+    (sym (c .before .before .before .before .has-decimal-digits .ensures) ∙ not-false _ (c .before .before .before .if1 .left))
+    (t .fields-from .ensures) (sym (c .before .has-real-fields .ensures) ∙ not-true _ (c .if2 .taken))
 
 values-of-requires : tie.Need-values-of-requires
-values-of-requires c κs = (rw (c .before .before .fields-from .ensures) (year-small (rowNumbers (c .before .before .before .before .before .args .d)) (sym (c .before .before .before .before .has-decimal-digits .ensures) ∙ not-false _ (c .before .before .before .if1 .left))), sym (c .before .has-real-fields .ensures) ∙ not-false _ (c .if2 .left))
+values-of-requires c κs = (
+  rw (c .before .before .fields-from .ensures) (year-small (rowNumbers (c .before .before .before .before .before .args .d)) (sym (c .before .before .before .before .has-decimal-digits .ensures) ∙ not-false _ (c .before .before .before .if1 .left))),
+  sym (c .before .has-real-fields .ensures) ∙ not-false _ (c .if2 .left),
+)
 
 length-fits-requires : tie.Need-length-fits-requires
 length-fits-requires c κs = search needs
 
 returns-3 : tie.Need-returns-3
-returns-3 c = all-fit (rowNumbers (c .before .before .before .before .before .before .before .before .args .d)) (c .before .before .before .before .before .before .before .before .args .seconds) (c .before .before .before .before .before .fields-from .result) (sym (c .before .before .before .before .before .before .before .has-decimal-digits .ensures) ∙ not-false _ (c .before .before .before .before .before .before .if1 .left)) (c .before .before .before .before .before .fields-from .ensures) (c .before .before .values-of .result) (sym (c .before .before .before .before .has-real-fields .ensures) ∙ not-false _ (c .before .before .before .if2 .left)) (c .before .before .values-of .ensures) (sym (c .before .length-fits .ensures) ∙ c .if3 .taken)
+returns-3 c =
+    let s = c .before .before .before .before .before .before .before .before in
+    let t = c .before .before .before .before .before in
+    let u = c .before .before in
+    all-fit (rowNumbers (s .args .d)) (s .args .seconds) (t .fields-from .result)
+    (sym (c .before .before .before .before .before .before .before .has-decimal-digits .ensures) ∙ not-false _ (c .before .before .before .before .before .before .if1 .left))
+    (t .fields-from .ensures) (u .values-of .result)
+    (sym (c .before .before .before .before .has-real-fields .ensures) ∙ not-false _ (c .before .before .before .if2 .left))
+    (u .values-of .ensures) (sym (c .before .length-fits .ensures) ∙ c .if3 .taken)
 
 returns-4 : tie.Need-returns-4
-returns-4 c = no-length (rowNumbers (c .before .before .before .before .before .before .before .before .args .d)) (c .before .before .before .before .before .before .before .before .args .seconds) (c .before .before .before .before .before .fields-from .result) (sym (c .before .before .before .before .before .before .before .has-decimal-digits .ensures) ∙ not-false _ (c .before .before .before .before .before .before .if1 .left)) (c .before .before .before .before .before .fields-from .ensures) (c .before .before .values-of .result) (sym (c .before .before .before .before .has-real-fields .ensures) ∙ not-false _ (c .before .before .before .if2 .left)) (c .before .before .values-of .ensures) (sym (c .before .length-fits .ensures) ∙ c .if3 .left)
+returns-4 c =
+    let s = c .before .before .before .before .before .before .before .before in
+    let t = c .before .before .before .before .before in
+    let u = c .before .before in
+    no-length (rowNumbers (s .args .d)) (s .args .seconds) (t .fields-from .result)
+    (sym (c .before .before .before .before .before .before .before .has-decimal-digits .ensures) ∙ not-false _ (c .before .before .before .before .before .before .if1 .left))
+    (t .fields-from .ensures) (u .values-of .result)
+    (sym (c .before .before .before .before .has-real-fields .ensures) ∙ not-false _ (c .before .before .before .if2 .left))
+    (u .values-of .ensures) (sym (c .before .length-fits .ensures) ∙ c .if3 .left)
 
 pub read-row-spec : {M : Type 1} → statement M
 read-row-spec =

@@ -2,7 +2,7 @@
 -- Assumes nothing.
 use native.Mathlib.Omega.{arith}
 use Rattle.amplitude_rules.specs.Reading.{valuesOf}
-use Rattle.amplitude_reader.proofs.Reading.{sign-through, days-small, day-low, day-high, hour-high, minute-high}
+use Rattle.amplitude_reader.proofs.Reading.{sign-through, bounds}
 use borrow.Author.Needs.{needs}
 use Rattle.amplitude_reader.proofs.values_of.Statement.{statement}
 use Rattle.amplitude_reader.proofs.values_of.Tie as tie
@@ -11,22 +11,40 @@ days-before-requires : tie.Need-days-before-requires
 days-before-requires c κs = search needs
 
 sub-day : tie.Need-sub-day
-sub-day c = omega (arith, day-low (c .before .before .args .x) (c .before .before .pre .0) (c .before .before .pre .1), day-high (c .before .before .args .x) (c .before .before .pre .0) (c .before .before .pre .1), hour-high (c .before .before .args .x) (c .before .before .pre .0) (c .before .before .pre .1), minute-high (c .before .before .args .x) (c .before .before .pre .0) (c .before .before .pre .1), c .before .days-before .ensures, days-small (c .before .before .args .x .year) (c .before .before .pre .0))
+sub-day c =
+    let s = c .before .before in
+    let b = bounds (s .args .x) (s .pre .0) (s .pre .1) in
+    omega (arith, c .before .days-before .ensures)
 
 add-day : tie.Need-add-day
-add-day c = omega (arith, day-low (c .before .before .args .x) (c .before .before .pre .0) (c .before .before .pre .1), day-high (c .before .before .args .x) (c .before .before .pre .0) (c .before .before .pre .1), hour-high (c .before .before .args .x) (c .before .before .pre .0) (c .before .before .pre .1), minute-high (c .before .before .args .x) (c .before .before .pre .0) (c .before .before .pre .1), c .before .days-before .ensures, days-small (c .before .before .args .x .year) (c .before .before .pre .0))
+add-day c =
+    let s = c .before .before in
+    let b = bounds (s .args .x) (s .pre .0) (s .pre .1) in
+    omega (arith, c .before .days-before .ensures)
 
 mul-t4 : tie.Need-mul-t4
-mul-t4 c = omega (arith, day-low (c .before .before .args .x) (c .before .before .pre .0) (c .before .before .pre .1), day-high (c .before .before .args .x) (c .before .before .pre .0) (c .before .before .pre .1), hour-high (c .before .before .args .x) (c .before .before .pre .0) (c .before .before .pre .1), minute-high (c .before .before .args .x) (c .before .before .pre .0) (c .before .before .pre .1), c .before .days-before .ensures, days-small (c .before .before .args .x .year) (c .before .before .pre .0))
+mul-t4 c =
+    let s = c .before .before in
+    let b = bounds (s .args .x) (s .pre .0) (s .pre .1) in
+    omega (arith, c .before .days-before .ensures)
 
 mul-t5 : tie.Need-mul-t5
-mul-t5 c = omega (arith, day-low (c .before .before .before .args .x) (c .before .before .before .pre .0) (c .before .before .before .pre .1), day-high (c .before .before .before .args .x) (c .before .before .before .pre .0) (c .before .before .before .pre .1), hour-high (c .before .before .before .args .x) (c .before .before .before .pre .0) (c .before .before .before .pre .1), minute-high (c .before .before .before .args .x) (c .before .before .before .pre .0) (c .before .before .before .pre .1), c .before .before .days-before .ensures, days-small (c .before .before .before .args .x .year) (c .before .before .before .pre .0))
+mul-t5 c =
+    let s = c .before .before .before in
+    let b = bounds (s .args .x) (s .pre .0) (s .pre .1) in
+    omega (arith, c .before .before .days-before .ensures)
 
 add-t6 : tie.Need-add-t6
-add-t6 c = omega (arith, day-low (c .before .before .before .args .x) (c .before .before .before .pre .0) (c .before .before .before .pre .1), day-high (c .before .before .before .args .x) (c .before .before .before .pre .0) (c .before .before .before .pre .1), hour-high (c .before .before .before .args .x) (c .before .before .before .pre .0) (c .before .before .before .pre .1), minute-high (c .before .before .before .args .x) (c .before .before .before .pre .0) (c .before .before .before .pre .1), c .before .before .days-before .ensures, days-small (c .before .before .before .args .x .year) (c .before .before .before .pre .0))
+add-t6 c =
+    let s = c .before .before .before in
+    let b = bounds (s .args .x) (s .pre .0) (s .pre .1) in
+    omega (arith, c .before .before .days-before .ensures)
 
 add-t7 : tie.Need-add-t7
-add-t7 c = omega (arith, day-low (c .before .before .before .before .args .x) (c .before .before .before .before .pre .0) (c .before .before .before .before .pre .1), day-high (c .before .before .before .before .args .x) (c .before .before .before .before .pre .0) (c .before .before .before .before .pre .1), hour-high (c .before .before .before .before .args .x) (c .before .before .before .before .pre .0) (c .before .before .before .before .pre .1), minute-high (c .before .before .before .before .args .x) (c .before .before .before .before .pre .0) (c .before .before .before .before .pre .1), c .before .before .before .days-before .ensures, days-small (c .before .before .before .before .args .x .year) (c .before .before .before .before .pre .0))
+add-t7 c =
+    let s = c .before .before .before .before in
+    let b = bounds (s .args .x) (s .pre .0) (s .pre .1) in
+    omega (arith, c .before .before .before .days-before .ensures)
 
 sign-of-requires : tie.Need-sign-of-requires
 sign-of-requires c κs = search needs

@@ -19,7 +19,10 @@ cast-result c = search needs
 
 returns : tie.Need-returns
 unfolding stateAt
-returns c = c .daylight-number .ensures ∙ ap daylightNumber (same-daylight (c .before .state .result) (stateAt (c .before .before .args .plan) (c .before .before .args .minute)) (c .before .state .ensures))
+returns c =
+    let s = c .before .before in
+    c .daylight-number .ensures ∙ ap daylightNumber
+    (same-daylight (c .before .state .result) (stateAt (s .args .plan) (s .args .minute)) (c .before .state .ensures))
 
 pub daylight-spec : {M : Type 1} → statement M
 daylight-spec = tie.close (tie.spec state-requires daylight-number-requires cast-result returns)

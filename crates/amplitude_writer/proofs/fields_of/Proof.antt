@@ -14,23 +14,43 @@ year-index-requires : tie.Need-year-index-requires
 year-index-requires c κs = omega (arith, legal (c .before .args .r) (c .before .pre) .minute)
 
 days-before-requires : tie.Need-days-before-requires
-days-before-requires c κs = omega (arith, c .before .before .year-index .ensures, year-index (c .before .before .before .before .args .r .minute / 1440) (placed (c .before .before .before .before .args .r .minute / 1440) (omega (arith, legal (c .before .before .before .before .args .r) (c .before .before .before .before .pre) .minute))))
+days-before-requires c κs =
+    let s = c .before .before .before .before in
+    omega (
+      arith,
+      c .before .before .year-index .ensures,
+      year-index (s .args .r .minute / 1440) (placed (s .args .r .minute / 1440) (omega (arith, legal (s .args .r) (s .pre) .minute))),
+    )
 
 sub-t8 : tie.Need-sub-t8
-sub-t8 c = rw (c .days-before .ensures, c .before .before .before .year-index .ensures) (year-low (c .before .before .before .before .before .args .r .minute / 1440) (placed (c .before .before .before .before .before .args .r .minute / 1440) (omega (arith, legal (c .before .before .before .before .before .args .r) (c .before .before .before .before .before .pre) .minute))))
+sub-t8 c =
+    let s = c .before .before .before .before .before in
+    rw (c .days-before .ensures, c .before .before .before .year-index .ensures)
+    (year-low (s .args .r .minute / 1440) (placed (s .args .r .minute / 1440) (omega (arith, legal (s .args .r) (s .pre) .minute))))
 
 add-t9 : tie.Need-add-t9
 add-t9 c = search needs
 
 sign-bits-requires : tie.Need-sign-bits-requires
-sign-bits-requires c κs = rw (legal-through (c .before .before .before .before .before .before .args .r .sign) (legal (c .before .before .before .before .before .before .args .r) (c .before .before .before .before .before .before .pre) .sign)) (legal (c .before .before .before .before .before .before .args .r) (c .before .before .before .before .before .before .pre) .sign)
+sign-bits-requires c κs =
+    let s = c .before .before .before .before .before .before in
+    rw (legal-through (s .args .r .sign) (legal (s .args .r) (s .pre) .sign)) (legal (s .args .r) (s .pre) .sign)
 
 leap-mark-requires : tie.Need-leap-mark-requires
 leap-mark-requires c κs = search needs
 
 returns : tie.Need-returns
 unfolding fieldsOf
-returns c = rw (c .before .before .before .days-before .ensures, c .before .sign-bits .ensures, c .leap-mark .ensures, c .before .before .before .before .before .before .year-index .ensures, year-rest-is (c .before .before .before .before .before .before .before .before .args .r .minute / 1440) (placed (c .before .before .before .before .before .before .before .before .args .r .minute / 1440) (omega (arith, legal (c .before .before .before .before .before .before .before .before .args .r) (c .before .before .before .before .before .before .before .before .pre) .minute))), legal-through (c .before .before .before .before .before .before .before .before .args .r .sign) (legal (c .before .before .before .before .before .before .before .before .args .r) (c .before .before .before .before .before .before .before .before .pre) .sign))
+returns c =
+    let s = c .before .before .before .before .before .before .before .before in
+    rw (
+      c .before .before .before .days-before .ensures,
+      c .before .sign-bits .ensures,
+      c .leap-mark .ensures,
+      c .before .before .before .before .before .before .year-index .ensures,
+      year-rest-is (s .args .r .minute / 1440) (placed (s .args .r .minute / 1440) (omega (arith, legal (s .args .r) (s .pre) .minute))),
+      legal-through (s .args .r .sign) (legal (s .args .r) (s .pre) .sign),
+    )
 
 pub fields-of-spec : {M : Type 1} → statement M
 fields-of-spec =

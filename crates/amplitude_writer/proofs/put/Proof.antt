@@ -20,13 +20,22 @@ cast-put-row : tie.Need-cast-put-row
 cast-put-row c = search needs
 
 put-row-requires : tie.Need-put-row-requires
-put-row-requires c κs = let l = values-length (c .before .before .before .before .before .before .args .r) (c .before .before .before .before .before .before .pre .0) in (l .0, l .1, c .before .before .before .before .before .before .pre .1)
+put-row-requires c κs =
+    let s = c .before .before .before .before .before .before in
+    let l = values-length (s .args .r) (s .pre .0) in (l .0, l .1, s .pre .1)
 
 same-length : tie.Need-same-length
 same-length c = search needs
 
 returns : tie.Need-returns
-returns c = symbols-are (c .before .before .before .before .before .before .before .before .before .args .r) (c .before .before .before .before .before .before .before .fields-of .result) (rowNumbers (c .before .before .before .before .before .before .row-of .result)) (c .before .before .before .before .before .symbols .result) (c .before .before .put-row .last .1 .1 .0) (c .before .before .before .before .before .before .before .before .before .args .out .now) (c .before .before .before .before .before .before .before .fields-of .ensures) (c .before .before .before .before .before .before .row-of .ensures) (c .before .before .before .before .before .symbols .ensures) (c .before .before .put-row .ensures)
+returns c =
+    let s = c .before .before .before .before .before .before .before .before .before in
+    let t = c .before .before .before .before .before .before .before in
+    let u = c .before .before .before .before .before .before in
+    let v = c .before .before .before .before .before in
+    symbols-are (s .args .r) (t .fields-of .result) (rowNumbers (u .row-of .result)) (v .symbols .result)
+    (c .before .before .put-row .last .1 .1 .0) (s .args .out .now) (t .fields-of .ensures) (u .row-of .ensures)
+    (v .symbols .ensures) (c .before .before .put-row .ensures)
 
 pub put-spec : {M : Type 1} → statement M
 put-spec =

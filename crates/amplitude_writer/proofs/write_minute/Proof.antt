@@ -26,7 +26,8 @@ ut1 c = let s = c .before .before .before .before .before in
 legal-ut1 : (c : tie.Else3) → legalUT1 (c .before .before .before .before .before .before .args .sign) (c .before .before .before .before .before .before .args .tenths) ≡ true
 legal-ut1 c = sym (ut1 (c .before)) ∙ not-false _ (c .if3 .left)
 
-values : (c : tie.After-values-at) → let a = c .before .before .before .before .before .before .before .args in c .values-at .result ≡ valuesAt (a .plan) (a .minute) (a .sign) (a .tenths)
+values : (c : tie.After-values-at) → let a = c .before .before .before .before .before .before .before .args in
+    c .values-at .result ≡ valuesAt (a .plan) (a .minute) (a .sign) (a .tenths)
 values c = let s = c .before .before .before .before .before .before .before in
     subst (λ (z : ℤ). c .values-at .result ≡ valuesAt (s .args .plan) (s .args .minute) z (s .args .tenths)) (toZ-ofZ (s .fits .sign)) (c .values-at .ensures)
 
@@ -34,16 +35,26 @@ is-legal-requires : tie.Need-is-legal-requires
 is-legal-requires c κs = search needs
 
 returns : tie.Need-returns
-returns c = no-1 (c .before .before .before .args .plan) (c .before .before .before .args .minute) (c .before .before .before .args .sign) (c .before .before .before .args .tenths) (c .before .before .before .args .out .now) (sym (c .before .is-legal .ensures) ∙ not-true _ (c .if1 .taken))
+returns c =
+    let s = c .before .before .before in
+    no-1 (s .args .plan) (s .args .minute) (s .args .sign) (s .args .tenths) (s .args .out .now)
+    (sym (c .before .is-legal .ensures) ∙ not-true _ (c .if1 .taken))
 
 returns-2 : tie.Need-returns-2
-returns-2 c = no-3 (c .before .before .before .before .args .plan) (c .before .before .before .before .args .minute) (c .before .before .before .before .args .sign) (c .before .before .before .before .args .tenths) (c .before .before .before .before .args .out .now) (legal (c .before)) (c .if2 .taken)
+returns-2 c =
+    let s = c .before .before .before .before in
+    no-3 (s .args .plan) (s .args .minute) (s .args .sign) (s .args .tenths) (s .args .out .now) (legal (c .before))
+    (c .if2 .taken)
 
 is-ut1-requires : tie.Need-is-ut1-requires
 is-ut1-requires c κs = search needs
 
 returns-3 : tie.Need-returns-3
-returns-3 c = no-18 (c .before .before .before .before .before .before .args .plan) (c .before .before .before .before .before .before .args .minute) (c .before .before .before .before .before .before .args .sign) (c .before .before .before .before .before .before .args .tenths) (c .before .before .before .before .before .before .args .out .now) (legal (c .before .before .before)) (c .before .before .if2 .left) (sym (ut1 (c .before)) ∙ not-true _ (c .if3 .taken))
+returns-3 c =
+    let s = c .before .before .before .before .before .before in
+    no-18 (s .args .plan) (s .args .minute) (s .args .sign) (s .args .tenths) (s .args .out .now)
+    (legal (c .before .before .before)) (c .before .before .if2 .left)
+    (sym (ut1 (c .before)) ∙ not-true _ (c .if3 .taken))
 
 values-at-requires : tie.Need-values-at-requires
 values-at-requires c κs = search needs
@@ -52,16 +63,34 @@ cast-needed : tie.Need-cast-needed
 cast-needed c = search needs
 
 returns-4 : tie.Need-returns-4
-returns-4 c = no-4 (c .before .before .before .before .before .before .before .before .before .args .plan) (c .before .before .before .before .before .before .before .before .before .args .minute) (c .before .before .before .before .before .before .before .before .before .args .sign) (c .before .before .before .before .before .before .before .before .before .args .tenths) (c .before .before .before .before .before .before .before .before .before .args .out .now) (legal (c .before .before .before .before .before .before)) (c .before .before .before .before .before .if2 .left) (legal-ut1 (c .before .before .before)) (c .before .before .values-at .result) (values (c .before .before)) (c .if4 .taken)
+returns-4 c =
+    let s = c .before .before .before .before .before .before .before .before .before in
+    let t = c .before .before in
+    no-4 (s .args .plan) (s .args .minute) (s .args .sign) (s .args .tenths) (s .args .out .now)
+    (legal (c .before .before .before .before .before .before)) (c .before .before .before .before .before .if2 .left)
+    (legal-ut1 (c .before .before .before)) (t .values-at .result) (values t) (c .if4 .taken)
 
 put-requires : tie.Need-put-requires
-put-requires c κs = let s = c .before .before .before .before .before .before .before .before .before .before in (subst (λ (r : Values). legalValues r ≡ true) (sym (values (c .before .before .before))) (sent-legal (s .args .plan) (s .args .minute) (s .args .sign) (s .args .tenths) (c .before .before .before .before .before .before .if2 .left) (legal-ut1 (c .before .before .before .before))), c .before .if4 .left)
+put-requires c κs =
+    let s = c .before .before .before .before .before .before .before .before .before .before in (
+      subst (λ (r : Values). legalValues r ≡ true) (sym (values (c .before .before .before)))
+          (sent-legal (s .args .plan) (s .args .minute) (s .args .sign) (s .args .tenths) (c .before .before .before .before .before .before .if2 .left) (legal-ut1 (c .before .before .before .before))),
+      c .before .if4 .left,
+    )
 
 same-length : tie.Need-same-length
 same-length c = search needs
 
 returns-5 : tie.Need-returns-5
-returns-5 c = all-yes (c .before .before .before .before .before .before .before .before .before .before .before .before .before .args .plan) (c .before .before .before .before .before .before .before .before .before .before .before .before .before .args .minute) (c .before .before .before .before .before .before .before .before .before .before .before .before .before .args .sign) (c .before .before .before .before .before .before .before .before .before .before .before .before .before .args .tenths) (c .before .before .before .before .before .before .before .before .before .before .before .before .before .args .out .now) (legal (c .before .before .before .before .before .before .before .before .before .before)) (c .before .before .before .before .before .before .before .before .before .if2 .left) (legal-ut1 (c .before .before .before .before .before .before .before)) (c .before .before .before .before .before .before .values-at .result) (values (c .before .before .before .before .before .before)) (c .before .before .before .before .if4 .left) (c .before .before .put .last .1 .0) (c .before .before .put .ensures)
+returns-5 c =
+    let s = c .before .before .before .before .before .before .before .before .before .before .before .before .before in
+    let t = c .before .before .before .before .before .before in
+    let u = c .before .before in
+    all-yes (s .args .plan) (s .args .minute) (s .args .sign) (s .args .tenths) (s .args .out .now)
+    (legal (c .before .before .before .before .before .before .before .before .before .before))
+    (c .before .before .before .before .before .before .before .before .before .if2 .left)
+    (legal-ut1 (c .before .before .before .before .before .before .before)) (t .values-at .result) (values t)
+    (c .before .before .before .before .if4 .left) (u .put .last .1 .0) (u .put .ensures)
 
 pub write-minute-spec : {M : Type 1} → statement M
 write-minute-spec =

@@ -15,7 +15,9 @@ enum-known-answer : tie.Need-enum-known-answer
 enum-known-answer c = search needs
 
 accepted-requires : tie.Need-accepted-requires
-accepted-requires c κs = read-exactly (c .before .before .before .before .before .args .symbols .now) (c .before .answer .given .0 .0) .0 (sym (c .before .before .before .read-minute .ensures) ∙ ap answerOf (c .before .answer .given .1)) .0
+accepted-requires c κs =
+    read-exactly (c .before .before .before .before .before .args .symbols .now) (c .before .answer .given .0 .0) .0
+    (sym (c .before .before .before .read-minute .ensures) ∙ ap answerOf (c .before .answer .given .1)) .0
 
 enum-told : tie.Need-enum-told
 enum-told c = search needs

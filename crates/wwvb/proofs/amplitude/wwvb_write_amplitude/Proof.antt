@@ -63,13 +63,22 @@ same-length c = search needs
 
 returns : tie.Need-returns
 unfolding replyNumbers
-returns c = let w = c .before .before .before .before .before .write-minute in let a = c .before .before .before .before .before .before .before .before in (ap (replyNumbers 1) (numbers a (ap writeNumbers (sym (c .before .answer .given .1)) ∙ w .ensures .0)), after a (w .ensures .1))
+returns c =
+    let w = c .before .before .before .before .before .write-minute in
+    let a = c .before .before .before .before .before .before .before .before in
+    (ap (replyNumbers 1) (numbers a (ap writeNumbers (sym (c .before .answer .given .1)) ∙ w .ensures .0)), after a (w .ensures .1))
 
 same-length-2 : tie.Need-same-length-2
 same-length-2 c = search needs
 
 returns-2 : tie.Need-returns-2
-returns-2 c = let w = c .before .before .before .before .before .before .write-minute in let a = c .before .before .before .before .before .before .before .before .before in (ap (λ (n : ℕ). n ∷ 0 ∷ []) (c .number .ensures) ∙ refused-reply (c .before .before .answer2 .given .0 .0) ∙ ap (replyNumbers 1) (numbers a (ap writeNumbers (sym (c .before .before .answer2 .given .1)) ∙ w .ensures .0)), after a (w .ensures .1))
+returns-2 c =
+    let w = c .before .before .before .before .before .before .write-minute in
+    let a = c .before .before .before .before .before .before .before .before .before in
+    let s = c .before .before in (
+      ap (λ (n : ℕ). n ∷ 0 ∷ []) (c .number .ensures) ∙ refused-reply (s .answer2 .given .0 .0) ∙ ap (replyNumbers 1) (numbers a (ap writeNumbers (sym (s .answer2 .given .1)) ∙ w .ensures .0)),
+      after a (w .ensures .1),
+    )
 
 pub wwvb-write-amplitude-spec : {M : Type 1} → statement M
 wwvb-write-amplitude-spec =
