@@ -5,12 +5,14 @@ ghost use Prim.Native.Nat.{_+_, _*_, _<_};
 ghost use lib.Dec.{eqb};
 ghost use Rattle.gregorian.specs.Gregorian.{yearCount};
 ghost use Rattle.calendar.specs.Calendar.{lastOfMonth};
-ghost use Rattle.amplitude_rules.specs.Amplitude.{lengthFits};
+ghost use Rattle.amplitude_rules.specs.Amplitude.{plusBits, minusBits, lengthFits};
 ghost use Rattle.amplitude_rules.specs.Reading.{fieldsFrom, signOf, valuesOf, decimalDigits, realFields, readAmplitude};
 ghost use Rattle.amplitude_row.specs.Row.{rowNumbers};
-ghost use Rattle.amplitude_reader.specs.Answer.{answerOf, fieldsAnswer};
+ghost use Rattle.amplitude_reader.specs.Answer.{answerOf, numbersReading};
+use amplitude_row::LayoutAnswer;
+use amplitude_row::MINUS;
+use amplitude_row::PLUS;
 use amplitude_row::Row;
-use amplitude_row::RowAnswer;
 use amplitude_rules::Fields;
 use amplitude_rules::Values;
 use calendar::Date;
@@ -25,7 +27,7 @@ pub enum ReadAnswer {
     BadValue,
 }
 
-// Whether the digits are decimal; those of two and three bits are small.
+// Whether the digits are decimal; those of two and three bits cannot be above 9.
 fn has_decimal_digits(d: Row) -> bool
     ensures { λ r. ⌜ r ≡ decimalDigits (rowNumbers d) ⌝ }
 {
@@ -89,12 +91,12 @@ fn fields_from(d: Row) -> Fields
 
 // Whether three bits are a UT1 sign.
 fn is_sign(bits: u32) -> bool
-    ensures { λ r. ⌜ r ≡ (eqb bits 0b101 || eqb bits 0b010) ⌝ }
+    ensures { λ r. ⌜ r ≡ (eqb bits plusBits || eqb bits minusBits) ⌝ }
 {
-    if bits == 0b101 {
+    if bits == PLUS {
         return true;
     }
-    bits == 0b010
+    bits == MINUS
 }
 
 // Whether the fields are real, with the year's leap-year mark.
@@ -124,7 +126,7 @@ fn has_real_fields(x: Fields) -> bool
 fn sign_of(bits: u32) -> i32
     ensures { λ r. ⌜ r ≡ signOf bits ⌝ }
 {
-    if bits == 0b101 { 1 } else { -1 }
+    if bits == PLUS { 1 } else { -1 }
 }
 
 // The values of real fields.
@@ -160,8 +162,8 @@ fn length_fits(minute: u32, warning: u32, seconds: u32) -> bool
 }
 
 // Question 18, and the values of the numbers of a row.
-fn read_row(d: Row, seconds: u32) -> ReadAnswer
-    ensures { λ r. ⌜ answerOf r ≡ fieldsAnswer (rowNumbers d) seconds ⌝ }
+fn read_numbers(d: Row, seconds: u32) -> ReadAnswer
+    ensures { λ r. ⌜ answerOf r ≡ numbersReading (rowNumbers d) seconds ⌝ }
 {
     if !has_decimal_digits(d) {
         return ReadAnswer::BadValue;
@@ -184,7 +186,7 @@ pub fn read_minute(symbols: &[u8]) -> ReadAnswer
 {
     let answer = amplitude_row::read_layout(symbols);
     match answer {
-        RowAnswer::Fits(row) => read_row(row, symbols.len() as u32),
-        RowAnswer::Differs => ReadAnswer::BadSymbols,
+        LayoutAnswer::Fits(row) => read_numbers(row, symbols.len() as u32),
+        LayoutAnswer::NoLayout => ReadAnswer::BadSymbols,
     }
 }

@@ -1,17 +1,17 @@
 -- Accepted symbols are those of the values that are read.
 -- Assumes nothing.
 use Prim.Native.Nat.{ℕ, suc, _+_, _-_, _/_, _%_, _≤_, _<_}
-use mathlib.Core.Bool.{Bool, true, false, _&&_, _||_}
+use mathlib.Core.Bool.{Bool, true, false, _||_, and-false}
 use mathlib.Core.Logic.{_⊎_, inl, inr, _≢_}
 use mathlib.Core.List.{List, [], _∷_}
 use mathlib.Core.Path.{_≡_, refl, sym, ap, _∙_}
 use native.Mathlib.Omega.{arith}
-use lib.Dec.{leb, eqb}
+use lib.Dec.{eqb}
 use lib.ListN.{length, take, drop, getD, replicate, length-drop, take-append-drop}
-use borrow.Author.Tests.{leb-true, eqb-true, ne-eqb}
+use borrow.Author.Tests.{eqb-true, ne-eqb}
 use Rattle.bits.specs.Bits.{all}
 use Rattle.bits.proofs.Tests.{both-true}
-use Rattle.symbols.specs.Symbols.{fill, fits, numbers}
+use Rattle.symbols.specs.Symbols.{fill, numbers}
 use Rattle.symbols.proofs.Laws.{read-fills}
 use Rattle.gregorian.specs.Gregorian.{firstYear, yearCount, dayCount, yearLength, yearLengths, before, yearOfDay}
 use Rattle.gregorian.proofs.Walk.{before-mono, walk-at}
@@ -23,11 +23,11 @@ use Rattle.questions.proofs.Laws.{Verdict, all-yes, first-no, verdict, answer, 
 use Rattle.amplitude_rules.specs.declared.Fields.{Fields}
 use Rattle.amplitude_rules.specs.declared.Values.{Values}
 use Rattle.amplitude_rules.specs.Amplitude.{table1, digits, lengthFits, legalValues, fieldsOf, symbols}
-use Rattle.amplitude_rules.specs.Reading.{isMark, layoutFits, numbersIn, fieldsFrom, fieldsIn, valuesOf, valuesIn, decimalDigits, realFields}
+use Rattle.amplitude_rules.specs.Reading.{isMark, layoutFits, numbersIn, fieldsFrom, fieldsIn, valuesOf, valuesIn, decimalDigits, realFields, numbersFit}
 use Rattle.amplitude_rules.specs.Reading.{fieldsFit, readQuestions, refused, accepted, readAmplitude}
 use Rattle.amplitude_rules.specs.Theorems.{ReadExactly, SymbolsApart, AcceptedLengths}
 use Rattle.amplitude_rules.proofs.Digits.{digits-fields}
-use Rattle.amplitude_rules.proofs.Facts.{Legal, legal, legal-values, Real, real, sign-forth}
+use Rattle.amplitude_rules.proofs.Facts.{Legal, legal, legal-values, Real, real, sign-forth, sign-legal, layout, nines, year-small}
 use Rattle.amplitude_rules.proofs.ReadBack.{read-values}
 
 marks-only : (s : List ℕ) → all isMark s ≡ true → replicate (length s) 2 ≡ s
@@ -78,59 +78,39 @@ module _ (x : Fields) (n : ℕ) (h : Real x) (hy : x .year < yearCount) where
       let e : t % 60 ≡ x .minute = omega arith in
       let f : t % 1440 / 60 ≡ x .hour = omega arith in
       let g : x .day - 1 + 1 ≡ x .day = omega arith in
-      rw (values-day, day-place (x .year) (x .day) hy (h .low) (h .high), e, f, g, sign-forth (x .sign) (h .sign) .0, ← h .leap)
+      rw (values-day, day-place (x .year) (x .day) hy (h .low) (h .high), e, f, g, sign-forth (x .sign) (h .sign), ← h .leap)
 
 -- symbols whose layout and fields fit
 module _ (s : List ℕ) (q : layoutFits s ≡ true) (v : fieldsFit s ≡ true) where
-  layout : (59 ≤ length s) × (length s ≤ 61) × (fits table1 (take 59 s) ≡ true) × (all isMark (drop 59 s) ≡ true)
-  unfolding layoutFits
-  layout =
-      let a = both-true (leb 59 (length s) && leb (length s) 61 && fits table1 (take 59 s)) (all isMark (drop 59 s)) q in
-      let b = both-true (leb 59 (length s) && leb (length s) 61) (fits table1 (take 59 s)) (a .0) in
-      let c = both-true (leb 59 (length s)) (leb (length s) 61) (b .0) in
-      (leb-true 59 (length s) (c .0), leb-true (length s) 61 (c .1), b .1, a .1)
-
   values : (decimalDigits (numbersIn s) ≡ true) × (realFields (fieldsIn s) ≡ true) × (lengthFits (lastOfMonth (valuesIn s .minute)) (valuesIn s .warning) (length s) ≡ true)
-  unfolding fieldsFit
+  unfolding numbersFit
   values =
-      let a = both-true (decimalDigits (numbersIn s) && realFields (fieldsIn s)) (lengthFits (lastOfMonth (valuesIn s .minute)) (valuesIn s .warning) (length s)) v in
-      let b = both-true (decimalDigits (numbersIn s)) (realFields (fieldsIn s)) (a .0) in
+      let a = both-true _ _ v in
+      let b = both-true _ _ (a .0) in
       (b .0, b .1, a .1)
 
-  row-back : fill table1 (numbersIn s) ≡ take 59 s
+  row-back : fill table1 (numbersIn s) ≡ take minFrame s
   unfolding numbersIn
-  row-back = read-fills table1 (take 59 s) (layout .2) .1
+  row-back = read-fills table1 (take minFrame s) (layout s q .row) .1
 
   flags : (getD (numbersIn s) 12 0 < 2) × (getD (numbersIn s) 13 0 < 4)
   unfolding numbersIn numbers table1
   flags =
-      let h = read-fills table1 (take 59 s) (layout .2) .0 in
+      let h = read-fills table1 (take minFrame s) (layout s q .row) .0 in
       let k = h .1 .1 .1 .1 .1 .1 .1 .1 .1 .1 .1 .1 in
       (k .0, k .1 .0)
 
   abbrev p : ℕ → ℕ
   p k = getD (numbersIn s) k 0
 
-  nines : (p 1 ≤ 9) × (p 3 ≤ 9) × (p 5 ≤ 9) × (p 6 ≤ 9) × (p 8 ≤ 9) × (p 9 ≤ 9) × (p 10 ≤ 9)
-  unfolding decimalDigits
-  nines =
-      let a = both-true _ _ (values .0) in
-      let b = both-true _ _ (a .0) in
-      let c = both-true _ _ (b .0) in
-      let d = both-true _ _ (c .0) in
-      let e = both-true _ _ (d .0) in
-      let f = both-true _ _ (e .0) in
-      (leb-true _ _ (f .0), leb-true _ _ (f .1), leb-true _ _ (e .1), leb-true _ _ (d .1), leb-true _ _ (c .1), leb-true _ _ (b .1), leb-true _ _ (a .1))
-
   digits-back : digits (fieldsIn s) ≡ numbersIn s
   unfolding numbersIn numbers table1
   digits-back =
-      let n = nines in
+      let n = nines (numbersIn s) (values .0) in
       digits-fields (p 0) (p 1) (p 2) (p 3) (p 4) (p 5) (p 6) (p 7) (p 8) (p 9) (p 10) (p 11) (p 12) (p 13) (n .0) (n .1) (n .2) (n .3) (n .6)
 
-  year-small : fieldsIn s .year < yearCount
-  unfolding fieldsFrom
-  year-small = let n = nines in omega arith
+  year : fieldsIn s .year < yearCount
+  year = year-small (numbersIn s) (values .0)
 
   abbrev r : Values
   r = valuesIn s
@@ -138,18 +118,18 @@ module _ (s : List ℕ) (q : layoutFits s ≡ true) (v : fieldsFit s ≡ true) w
   symbols-back : symbols r ≡ s
   unfolding symbols valuesOf
   symbols-back =
-      let rest = marks-only (drop 59 s) (layout .3) in
-      let e : length s - 59 ≡ length (drop 59 s) = sym (length-drop 59 s) in
-      rw (fields-values (fieldsIn s) (length s) (real (fieldsIn s) (values .1)) year-small, digits-back, row-back, e, rest)
-      (take-append-drop 59 s)
+      let rest = marks-only (drop minFrame s) (layout s q .rest) in
+      let e : length s - minFrame ≡ length (drop minFrame s) = sym (length-drop minFrame s) in
+      rw (fields-values (fieldsIn s) (length s) (real (fieldsIn s) (values .1)) year, digits-back, row-back, e, rest)
+      (take-append-drop minFrame s)
 
   legal-back : Legal r
   unfolding valuesOf fieldsFrom
   legal-back =
       record {
-        minute = values-in-range (fieldsIn s) (length s) (real (fieldsIn s) (values .1)) year-small;
-        sign = sign-forth (fieldsIn s .sign) (real (fieldsIn s) (values .1) .sign) .1;
-        tenths = nines .4;
+        minute = values-in-range (fieldsIn s) (length s) (real (fieldsIn s) (values .1)) year;
+        sign = sign-legal (fieldsIn s .sign);
+        tenths = nines (numbersIn s) (values .0) .4;
         warning = omega (arith, flags .0);
         daylight = omega (arith, flags .1);
         length = values .2;
@@ -172,9 +152,9 @@ read-exactly s q = (
     go : readAmplitude s ≡ accepted q → Verdict refused (accepted (valuesIn s)) (readQuestions s) → (legalValues q ≡ true) × (s ≡ symbols q)
     go h (first-no n a e) = absurd (not-refused n q (sym e ∙ h))
     go h (all-yes a e) =
-        let layout : layoutFits s ≡ true = yes-at (readQuestions s) a 17 in
-        let fields : fieldsFit s ≡ true = yes-at (readQuestions s) a 18 in
-        rw (← values-of-answer (valuesIn s) q (sym e ∙ h)) (legal-values (r s layout fields) (legal-back s layout fields), sym (symbols-back s layout fields))
+        let l : layoutFits s ≡ true = yes-at (readQuestions s) a 17 in
+        let f : fieldsFit s ≡ true = yes-at (readQuestions s) a 18 in
+        rw (← values-of-answer (valuesIn s) q (sym e ∙ h)) (legal-values (r s l f) (legal-back s l f), sym (symbols-back s l f))
 
 pub symbols-apart : SymbolsApart
 symbols-apart q r lq lr other same =
@@ -198,11 +178,7 @@ module _ (r : Values) (fits : lengthFits (lastOfMonth (r .minute)) (r .warning) 
   other : (lastOfMonth (r .minute) ≡ false) ⊎ (r .warning ≢ 1) → r .seconds ≡ 60
   unfolding lengthFits
   other (inl h) = eqb-true (r .seconds) usualFrame (rw h at fits)
-  other (inr n) = eqb-true (r .seconds) usualFrame (rw (ne-eqb (r .warning) 1 n, and-no (lastOfMonth (r .minute))) at fits)
-    where
-      and-no : (b : Bool) → (b && false) ≡ false
-      and-no true = refl
-      and-no false = refl
+  other (inr n) = eqb-true (r .seconds) usualFrame (rw (ne-eqb (r .warning) 1 n, and-false (lastOfMonth (r .minute))) at fits)
 
 pub accepted-lengths : AcceptedLengths
 accepted-lengths s r h =

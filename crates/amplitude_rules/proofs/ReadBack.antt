@@ -11,23 +11,24 @@ use borrow.Author.Tests.{lt-ltb, le-leb, eq-eqb}
 use Rattle.bits.specs.Bits.{bits, all}
 use Rattle.bits.proofs.Tests.{and-true}
 use Rattle.questions.specs.Questions.{asked}
-use Rattle.symbols.specs.Symbols.{fill, numbers}
+use Rattle.symbols.specs.Symbols.{marker, fill, numbers}
 use Rattle.symbols.proofs.Laws.{filled-reads}
 use Rattle.gregorian.specs.Gregorian.{firstYear, monthsOf, yearLength, yearLengths, before, yearOfDay}
 use Rattle.gregorian.proofs.Months.{Placed, placed, months-short, year-index, year-rest, year-low, year-rest-is}
 use Rattle.calendar.specs.Calendar.{lastOfMonth}
+use Rattle.plan.specs.Plan.{minFrame, maxFrame}
 use Rattle.amplitude_rules.specs.declared.Values.{Values}
 use Rattle.amplitude_rules.specs.Amplitude.{table1, digits, leapMark, fieldsOf, symbols}
-use Rattle.amplitude_rules.specs.Reading.{isMark, layoutFits, numbersIn, valuesOf, decimalDigits, realFields, fieldsFit, readQuestions, accepted, readAmplitude}
+use Rattle.amplitude_rules.specs.Reading.{isMark, layoutFits, numbersIn, valuesOf, decimalDigits, realFields, numbersFit, fieldsFit, readQuestions, accepted, readAmplitude}
 use Rattle.amplitude_rules.proofs.Digits.{Small, digits-within, fields-digits}
 use Rattle.amplitude_rules.proofs.Facts.{Legal, lengths, sign-back, sign-real, sign-small, mark-small}
 
-all-marks : (n : ℕ) → all isMark (replicate n 2) ≡ true
+all-marks : (n : ℕ) → all isMark (replicate n marker) ≡ true
 unfolding all
 all-marks zero = refl
 all-marks (suc n) = all-marks n
 
-pub length-row : (v : List ℕ) → length (fill table1 v) ≡ 59
+pub length-row : (v : List ℕ) → length (fill table1 v) ≡ minFrame
 unfolding fill table1 bits
 length-row v = refl
 
@@ -54,22 +55,22 @@ module _ (r : Values) (l : Legal r) where
   row = fill table1 (digits (fieldsOf r))
 
   abbrev tail : List ℕ
-  tail = replicate (r .seconds - 59) 2
+  tail = replicate (r .seconds - minFrame) marker
 
-  front : take 59 (row ++ tail) ≡ row
-  front = take-at row tail 59 (length-row (digits (fieldsOf r)))
+  front : take minFrame (row ++ tail) ≡ row
+  front = take-at row tail minFrame (length-row (digits (fieldsOf r)))
 
   length-symbols : length (row ++ tail) ≡ r .seconds
   length-symbols =
       let n = lengths (lastOfMonth (r .minute)) (r .warning) (r .seconds) (l .length) in
-      omega (arith, length-append row tail, length-row (digits (fieldsOf r)), length-replicate {A = ℕ} (r .seconds - 59) 2)
+      omega (arith, length-append row tail, length-row (digits (fieldsOf r)), length-replicate {A = ℕ} (r .seconds - minFrame) marker)
 
   fits-symbols : layoutFits (symbols r) ≡ true
   unfolding symbols layoutFits
   fits-symbols =
       let n = lengths (lastOfMonth (r .minute)) (r .warning) (r .seconds) (l .length) in
-      rw (length-symbols, front, drop-at row tail 59 (length-row (digits (fieldsOf r))))
-      (and-true (and-true (and-true (le-leb 59 (r .seconds) (n .0)) (le-leb (r .seconds) 61 (n .1))) (filled-reads table1 (digits (fieldsOf r)) (digits-within (fieldsOf r) small) .0)) (all-marks (r .seconds - 59)))
+      rw (length-symbols, front, drop-at row tail minFrame (length-row (digits (fieldsOf r))))
+      (and-true (and-true (and-true (le-leb minFrame (r .seconds) (n .0)) (le-leb (r .seconds) maxFrame (n .1))) (filled-reads table1 (digits (fieldsOf r)) (digits-within (fieldsOf r) small) .0)) (all-marks (r .seconds - minFrame)))
 
   numbers-back : numbersIn (symbols r) ≡ digits (fieldsOf r)
   unfolding symbols numbersIn
@@ -119,7 +120,7 @@ module _ (r : Values) (l : Legal r) where
   length-of = length-symbols
 
   fields-fit : fieldsFit (symbols r) ≡ true
-  unfolding fieldsFit fieldsOf
+  unfolding numbersFit fieldsOf
   fields-fit = rw (numbers-back, fields-digits (fieldsOf r), length-of, values-back) (and-true (and-true decimals-back real-back) (l .length))
 
   pub read-values : readAmplitude (symbols r) ≡ accepted r

@@ -3,7 +3,7 @@
 use Prim.Native.Nat.{ℕ, _-_, _≤_, _<_}
 use mathlib.Core.Bool.{true, false}
 use mathlib.Core.List.{List, [], _∷_, _++_}
-use mathlib.Core.Logic.{inl, inr, _↔_}
+use mathlib.Core.Logic.{inl, inr, _↔_, Iff·trans}
 use mathlib.Core.Path.{_≡_, refl, ap, _∙_}
 use native.Mathlib.Omega.{arith}
 use lib.Dec.{leb, eqb}
@@ -24,7 +24,7 @@ use Rattle.amplitude_rules.specs.Writing.{valuesAt, writeQuestions, writ
 use Rattle.amplitude_rules.specs.Theorems.{AmplitudeReadOrder, AmplitudeReadAccepted, AmplitudeReadRefused, AmplitudeReadAnswers}
 use Rattle.amplitude_rules.specs.Theorems.{AmplitudeReadFacts, AmplitudeWriteOrder, AmplitudeWriteAccepted, AmplitudeWriteRefused}
 use Rattle.amplitude_rules.specs.Theorems.{AmplitudeWriteAnswers, AmplitudeWriteFacts, AmplitudeDone, AmplitudeWriteDone}
-use Rattle.amplitude_rules.specs.Theorems.{AmplitudeWriteUndone}
+use Rattle.amplitude_rules.specs.Theorems.{AmplitudeWriteUndone, writeRefusals}
 use Rattle.amplitude_rules.proofs.Facts.{Legal}
 use Rattle.amplitude_rules.proofs.ReadBack.{length-of}
 use Rattle.amplitude_rules.proofs.Exact.{not-refused}
@@ -89,14 +89,11 @@ eighteen s = (there, λ h. inr (h .0, inl (refl, h .1)))
     there (inr (h, inl k)) = (h, k .1)
     there (inr (h, inr k)) = absurd (k .1)
 
-chained : {A B C : Type 0} → A ↔ B → B ↔ C → A ↔ C
-chained f g = ((λ a. g .0 (f .0 a)), (λ c. f .1 (g .1 c)))
-
 pub amplitude-read-facts : AmplitudeReadFacts
 amplitude-read-facts =
     record {
-      symbols17 = λ s. chained (read-refused s 17) (seventeen s);
-      values18 = λ s. chained (read-refused s 18) (eighteen s);
+      symbols17 = λ s. Iff·trans (read-refused s 17) (seventeen s);
+      values18 = λ s. Iff·trans (read-refused s 18) (eighteen s);
     }
 
 module _ (p : Plan) (t : ℕ) (sign : ℤ) (tenths space : ℕ) where
@@ -156,10 +153,10 @@ module _ (p : Plan) (t : ℕ) (sign : ℤ) (tenths space : ℕ) where
 pub amplitude-write-facts : AmplitudeWriteFacts
 amplitude-write-facts p t sign tenths space =
     record {
-      plan1 = chained (write-refused p t sign tenths space 1) (one p t sign tenths space);
-      minute3 = chained (write-refused p t sign tenths space 3) (three p t sign tenths space);
-      ut1-18 = chained (write-refused p t sign tenths space 18) (ut1 p t sign tenths space);
-      space4 = chained (write-refused p t sign tenths space 4) (four p t sign tenths space);
+      plan1 = Iff·trans (write-refused p t sign tenths space 1) (one p t sign tenths space);
+      minute3 = Iff·trans (write-refused p t sign tenths space 3) (three p t sign tenths space);
+      ut1-18 = Iff·trans (write-refused p t sign tenths space 18) (ut1 p t sign tenths space);
+      space4 = Iff·trans (write-refused p t sign tenths space 4) (four p t sign tenths space);
     }
 
 -- ---- the buffer after writing
@@ -213,7 +210,7 @@ module _ (p : Plan) (t : ℕ) (sign : ℤ) (tenths : ℕ) (buffer : List ℕ) wh
   unfolding oneOf
   above k first = go k (rw (write-order p t sign tenths (length buffer)) at (listed (writeQuestions p t sign tenths (length buffer)) k first))
     where
-      go : (k : ℕ) → oneOf (1 ∷ 3 ∷ 18 ∷ 4 ∷ []) k ≡ true → eqb k 0 ≡ false
+      go : (k : ℕ) → oneOf writeRefusals k ≡ true → eqb k 0 ≡ false
       go k h = ne-eqb k 0 (λ e. absurd (let z : false ≡ true = rw e at h in let w : _≡_ {A = ℕ} 0 1 = cc in omega arith))
 
   undone : (k : ℕ) → FirstNo (writeQuestions p t sign tenths (length buffer)) k → after ≡ buffer

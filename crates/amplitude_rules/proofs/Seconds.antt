@@ -1,23 +1,23 @@
 -- Question 17, second by second.
 -- Assumes nothing.
-use Prim.Native.Nat.{ℕ, zero, suc, _+_, _-_, _≤_, _<_}
-use mathlib.Core.Bool.{Bool, true, false, _&&_}
-use mathlib.Core.List.{List, [], _∷_}
+use Prim.Native.Nat.{ℕ, _+_, _-_, _≤_, _<_}
+use mathlib.Core.Bool.{Bool, true, false}
+use mathlib.Core.List.{List}
 use mathlib.Core.Path.{_≡_, refl, sym, _∙_}
 use native.Mathlib.Decide.{decLt}
 use native.Mathlib.Omega.{arith}
 use lib.Dec.{T, leb, eqb, eqb→eq}
 use lib.ListN.{length, take, drop, getD, length-drop}
 use lib.Seq.{length-take-le, getD-take, getD-drop}
-use borrow.Author.Tests.{le-leb, leb-true}
 use Rattle.bits.specs.Bits.{pick, all}
-use Rattle.bits.proofs.Tests.{both-true, and-true, upto, upto-at}
+use Rattle.bits.proofs.Tests.{upto, upto-at, all-at, at-all}
 use Rattle.questions.specs.Questions.{oneOf}
 use Rattle.symbols.specs.Symbols.{fits}
 use Rattle.symbols.proofs.Places.{kinds, isKind, fits-each, each-at, at-each}
 use Rattle.amplitude_rules.specs.Amplitude.{table1}
-use Rattle.amplitude_rules.specs.Reading.{isMark, layoutFits}
+use Rattle.amplitude_rules.specs.Reading.{isMark}
 use Rattle.amplitude_rules.specs.Theorems.{markers, zeros, rightAt, LayoutSeconds}
+use Rattle.amplitude_rules.proofs.Facts.{layout, layout-fits}
 
 -- the kind of a second
 kindAt : ℕ → ℕ
@@ -55,18 +55,6 @@ late-kind k h l = elim (decLt k 60) [
   | yes e ↦ let z : k ≡ 59 = omega arith in rw z
   | no n ↦ let z : k ≡ 60 = omega arith in rw z
 ]
-
--- markers, place by place
-all-at : (t : ℕ → Bool) (s : List ℕ) → all t s ≡ true → (i : ℕ) → i < length s → t (getD s i 0) ≡ true
-unfolding all
-all-at t [] h i l = absurd (omega arith)
-all-at t (x ∷ s) h zero l = both-true (t x) (all t s) h .0
-all-at t (x ∷ s) h (suc i) l = all-at t s (both-true (t x) (all t s) h .1) i (omega arith)
-
-at-all : (t : ℕ → Bool) (s : List ℕ) → ((i : ℕ) → i < length s → t (getD s i 0) ≡ true) → all t s ≡ true
-unfolding all
-at-all t [] h = refl
-at-all t (x ∷ s) h = and-true (h 0 (omega arith)) (at-all t s (λ i l. h (suc i) (omega arith)))
 
 module _ (s : List ℕ) where
   abbrev Right : Type 0
@@ -117,14 +105,7 @@ module _ (s : List ℕ) where
             rw (getD-drop 59 s i 0) (rw (late-kind (59 + i) (omega arith) (omega (arith, n))) at e)
 
 pub layout-seconds : LayoutSeconds
-unfolding layoutFits
 layout-seconds s = (
-  (λ h.
-      let a = both-true (leb 59 (length s) && leb (length s) 61 && fits table1 (take 59 s)) (all isMark (drop 59 s)) h in
-      let b = both-true (leb 59 (length s) && leb (length s) 61) (fits table1 (take 59 s)) (a .0) in
-      let c = both-true (leb 59 (length s)) (leb (length s) 61) (b .0) in
-      let low = leb-true 59 (length s) (c .0) in
-      let high = leb-true (length s) 61 (c .1) in
-      (low, high, right s low high (b .1) (a .1))),
-  (λ h. and-true (and-true (and-true (le-leb 59 (length s) (h .0)) (le-leb (length s) 61 (h .1))) (row-fits s (h .0) (h .1) (h .2))) (rest-marked s (h .0) (h .1) (h .2))),
+  (λ h. let l = layout s h in (l .low, l .high, right s (l .low) (l .high) (l .row) (l .rest))),
+  (λ h. layout-fits s (record { low = h .0; high = h .1; row = row-fits s (h .0) (h .1) (h .2); rest = rest-marked s (h .0) (h .1) (h .2) })),
 )

@@ -1,9 +1,9 @@
 -- What a plan gives a minute reads back, and as the phase code does.
 -- Assumes nothing.
 use Prim.Native.Nat.{ℕ, zero, suc, _≤_, _<_}
-use mathlib.Core.Bool.{Bool, true, false, _&&_}
+use mathlib.Core.Bool.{Bool, true, false, _&&_, false≢true}
 use mathlib.Core.Logic.{_↔_, _⊎_, inl, inr, _≢_}
-use mathlib.Core.Path.{_≡_, refl, sym}
+use mathlib.Core.Path.{_≡_, refl}
 use native.Mathlib.Omega.{arith}
 use lib.Dec.{leb, eqb}
 use lib.IntN.{ℤ, pos, negsuc}
@@ -71,17 +71,14 @@ sent-reads p t sign tenths h l u = read-values (valuesAt p t sign tenths) (value
 abbrev mark : LeapState → ℕ
 mark l = pick (eqb (leapNumber l) 0) 0 1
 
-never : _≡_ {A = Bool} true false → ⊥
-never h = let z : _≡_ {A = ℕ} 0 1 = cc in omega arith
-
 -- the leap state of a legal sign is none exactly where the sign is 0
 signed : (z : ℤ) (m : ℕ) → legalLeap z m ≡ true → mark (leapOf z) ≡ 1 ↔ (z ≢ pos 0)
 unfolding legalLeap
 signed (pos zero) m l = ((λ h. absurd (omega arith)), (λ n. absurd (n refl)))
 signed (pos (suc zero)) m l = ((λ h e. let z : _≡_ {A = ℕ} 0 1 = cc in omega arith), (λ n. refl))
-signed (pos (suc (suc n))) m l = absurd (never (sym l))
+signed (pos (suc (suc n))) m l = absurd (false≢true l)
 signed (negsuc zero) m l = ((λ h e. let z : _≡_ {A = ℕ} 0 1 = cc in omega arith), (λ n. refl))
-signed (negsuc (suc n)) m l = absurd (never (sym l))
+signed (negsuc (suc n)) m l = absurd (false≢true l)
 
 legal-leap : (p : Plan) → legalPlan p ≡ true → legalLeap (p .«leap_sign») (p .«leap_month») ≡ true
 unfolding legalPlan

@@ -7,7 +7,7 @@ use lib.Dec.{leb, ltb, eqb}
 use lib.IntN.{ℤ, pos, negsuc}
 use lib.ListN.{replicate}
 use Rattle.bits.specs.Bits.{pick}
-use Rattle.symbols.specs.Symbols.{Part, mark, blank, high, fill}
+use Rattle.symbols.specs.Symbols.{Part, marker, mark, blank, high, fill}
 use Rattle.gregorian.specs.Gregorian.{firstYear, leapYear, yearOfDay}
 use Rattle.calendar.specs.Calendar.{minuteCount, lastOfMonth}
 use Rattle.plan.specs.Plan.{minFrame, usualFrame, maxFrame}
@@ -41,10 +41,16 @@ digits x =
 
 -- ---- the values of a minute
 
--- the UT1 sign: 101 plus, 010 minus
+-- the bits of the UT1 sign: 101 plus, 010 minus
+abbrev pub plusBits : ℕ
+plusBits = 0b101
+
+abbrev pub minusBits : ℕ
+minusBits = 0b010
+
 unfoldable pub signBits : ℤ → ℕ
-signBits (pos n) = 0b101
-signBits (negsuc n) = 0b010
+signBits (pos n) = plusBits
+signBits (negsuc n) = minusBits
 
 -- the UT1 sign is +1 or -1
 unfoldable pub legalSign : ℤ → Bool
@@ -87,4 +93,4 @@ fieldsOf r =
 
 -- the symbols of values, with markers at seconds 59 and 60 if they are there
 unfoldable pub symbols : Values → List ℕ
-symbols r = fill table1 (digits (fieldsOf r)) ++ replicate (r .seconds - minFrame) 2
+symbols r = fill table1 (digits (fieldsOf r)) ++ replicate (r .seconds - minFrame) marker

@@ -8,19 +8,19 @@ use lib.IntN.{ℤ, pos, negsuc}
 use lib.ListN.{length, take, drop, getD}
 use Rattle.bits.specs.Bits.{pick, all}
 use Rattle.questions.specs.Questions.{Question, asked}
-use Rattle.symbols.specs.Symbols.{fits, numbers}
+use Rattle.symbols.specs.Symbols.{marker, fits, numbers}
 use Rattle.gregorian.specs.Gregorian.{firstYear, yearLength, yearLengths, before}
 use Rattle.calendar.specs.Calendar.{lastOfMonth}
 use Rattle.plan.specs.Plan.{minFrame, maxFrame}
 use Rattle.amplitude_rules.specs.declared.Fields.{Fields}
 use Rattle.amplitude_rules.specs.declared.Values.{Values}
-use Rattle.amplitude_rules.specs.Amplitude.{table1, leapMark, lengthFits}
+use Rattle.amplitude_rules.specs.Amplitude.{table1, plusBits, minusBits, leapMark, lengthFits}
 
 -- ---- question 17
 
 -- a marker
 abbrev pub isMark : ℕ → Bool
-isMark x = eqb x 2
+isMark x = eqb x marker
 
 -- 59 to 61 symbols; in seconds 0 to 58 a marker, 0, or one of 0 and 1 as the layout has it; markers after them
 unfoldable pub layoutFits : List ℕ → Bool
@@ -52,7 +52,7 @@ fieldsIn s = fieldsFrom (numbersIn s)
 
 -- the UT1 sign of its three bits
 unfoldable pub signOf : ℕ → ℤ
-signOf b = pick (eqb b 0b101) (pos 1) (negsuc 0)
+signOf b = pick (eqb b plusBits) (pos 1) (negsuc 0)
 
 -- the values of fields in a minute of n seconds; the day of the year is counted from 1
 unfoldable pub valuesOf : Fields → ℕ → Values
@@ -71,7 +71,7 @@ valuesIn s = valuesOf (fieldsIn s) (length s)
 
 -- ---- question 18
 
--- digits of four bits are 0 to 9; those of two and three bits are small
+-- digits of four bits are 0 to 9; those of two and three bits cannot be above 9
 unfoldable pub decimalDigits : List ℕ → Bool
 decimalDigits v =
     leb (getD v 1 0) 9 && leb (getD v 3 0) 9 && leb (getD v 5 0) 9 && leb (getD v 6 0) 9
@@ -80,16 +80,19 @@ decimalDigits v =
 -- a UT1 sign, a minute, an hour and a day of the year that are real, and the year's leap-year mark
 unfoldable pub realFields : Fields → Bool
 realFields x =
-    (eqb (x .sign) 0b101 || eqb (x .sign) 0b010)
+    (eqb (x .sign) plusBits || eqb (x .sign) minusBits)
     && ltb (x .minute) 60 && ltb (x .hour) 24
     && leb 1 (x .day) && leb (x .day) (yearLength (firstYear + x .year))
     && eqb (x .leap) (leapMark (firstYear + x .year))
 
--- decimal digits, real fields, and a length that fits the date and the warning
-unfoldable pub fieldsFit : List ℕ → Bool
-fieldsFit s =
-    decimalDigits (numbersIn s) && realFields (fieldsIn s)
-    && lengthFits (lastOfMonth (valuesIn s .minute)) (valuesIn s .warning) (length s)
+-- numbers of n symbols: decimal digits, real fields, and a length that fits the date and the warning
+unfoldable pub numbersFit : List ℕ → ℕ → Bool
+numbersFit v n =
+    decimalDigits v && realFields (fieldsFrom v)
+    && lengthFits (lastOfMonth (valuesOf (fieldsFrom v) n .minute)) (valuesOf (fieldsFrom v) n .warning) n
+
+abbrev pub fieldsFit : List ℕ → Bool
+fieldsFit s = numbersFit (numbersIn s) (length s)
 
 -- ---- the call
 

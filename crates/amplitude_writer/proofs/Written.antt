@@ -6,17 +6,19 @@ use mathlib.Core.List.{List, [], _∷_, _++_, append-nil, append-assoc}
 use mathlib.Core.Path.{_≡_, refl, sym, ap, _∙_}
 use native.Mathlib.Omega.{arith}
 use lib.IntN.{ℤ, pos, negsuc}
-use lib.ListN.{length, take, drop, set, getD, replicate, length-append}
-use lib.Seq.{take-length, drop-cons, set-at}
+use lib.ListN.{length, take, drop, set, getD, replicate, length-append, take-append-drop}
+use lib.Seq.{drop-cons, drop-drop, set-at, take-at, drop-at, length-take-le}
 use borrow.Author.Tests.{eqb-true, ne-eqb}
 use mir.Syntax.{w32}
-use mir.Val.{ofZ, toZ}
-use Rattle.symbols.specs.Symbols.{fill}
+use mir.Val.{ofZ}
+use Rattle.symbols.specs.Symbols.{marker, fill, Within}
+use Rattle.plan.specs.Plan.{minFrame, maxFrame}
 use Rattle.amplitude_rules.specs.Amplitude.{table1, digits, signBits, legalSign, legalValues, fieldsOf, symbols}
 use Rattle.amplitude_rules.specs.declared.Fields.{Fields}
 use Rattle.amplitude_rules.specs.declared.Values.{Values}
 use Rattle.amplitude_rules.proofs.Facts.{legal, lengths}
-use Rattle.amplitude_rules.proofs.ReadBack.{small}
+use Rattle.amplitude_rules.proofs.Digits.{digits-within}
+use Rattle.amplitude_rules.proofs.ReadBack.{small, length-row}
 
 -- ---- signs
 
@@ -35,54 +37,59 @@ minus-bits (pos (suc zero)) h p = absurd (p refl)
 minus-bits (pos (suc (suc k))) h p = let e = eqb-true (suc (suc k)) 1 h in absurd (omega arith)
 minus-bits (negsuc k) h p = refl
 
-pub legal-through : (z : ℤ) → legalSign z ≡ true → toZ w32 (ofZ w32 z) ≡ z
-unfolding legalSign
-legal-through (pos zero) h = absurd (false≢true h)
-legal-through (pos (suc zero)) h = refl
-legal-through (pos (suc (suc k))) h = let e = eqb-true (suc (suc k)) 1 h in absurd (omega arith)
-legal-through (negsuc zero) h = refl
-legal-through (negsuc (suc k)) h = let e = eqb-true (suc k) 0 h in absurd (omega arith)
+-- ---- the fields of legal values, and their length
 
--- ---- the fields of legal values are small
+pub fields-within : (r : Values) (x : Fields) → legalValues r ≡ true → x ≡ fieldsOf r → Within table1 (digits x)
+fields-within r x h e = rw e (digits-within (fieldsOf r) (small r (legal r h)))
 
-pub small-parts : (r : Values) (x : Fields) → legalValues r ≡ true → x ≡ fieldsOf r
-    → (x .minute < 60) × (x .hour < 24) × (x .day < 400) × (x .sign < 8) × (x .tenths ≤ 9) × (x .year < 100) × (x .leap < 2) × (x .warning < 2) × (x .daylight < 4)
-small-parts r x h e =
-    let s = small r (legal r h) in
-    rw e (s .minute, s .hour, s .day, s .sign, s .tenths, s .year, s .leap, s .warning, s .daylight)
-
-pub values-length : (r : Values) → legalValues r ≡ true → (59 ≤ r .seconds) × (r .seconds ≤ 61)
+pub values-length : (r : Values) → legalValues r ≡ true → (minFrame ≤ r .seconds) × (r .seconds ≤ maxFrame)
 values-length r h = lengths _ (r .warning) (r .seconds) (legal r h .length)
 
 -- ---- markers after a row
 
 -- a marker put after a list that was written
-marked : (w out : List ℕ) (n : ℕ) → length w ≡ n → n < length out → set (w ++ drop n out) n 2 ≡ (w ++ (2 ∷ [])) ++ drop (suc n) out
+marked : (w out : List ℕ) (n : ℕ) → length w ≡ n → n < length out → set (w ++ drop n out) n marker ≡ (w ++ (marker ∷ [])) ++ drop (suc n) out
 marked w out n e h =
-    ap (λ (l : List ℕ). set (w ++ l) n 2) (drop-cons out n 0 h)
-    ∙ set-at w (getD out n 0) (drop (suc n) out) 2 n e
-    ∙ sym (append-assoc w (2 ∷ []) (drop (suc n) out))
+    ap (λ (l : List ℕ). set (w ++ l) n marker) (drop-cons out n 0 h)
+    ∙ set-at w (getD out n 0) (drop (suc n) out) marker n e
+    ∙ sym (append-assoc w (marker ∷ []) (drop (suc n) out))
 
-module _ (w out l : List ℕ) (n : ℕ) (e : length w ≡ 59) (h : l ≡ take (length w) w ++ drop (length w) out) where
-  copied : l ≡ w ++ drop 59 out
-  copied = h ∙ rw (take-length w, e)
+-- the markers of a minute of n seconds, put into a list
+module _ (out : List ℕ) (n : ℕ) (long : n ≤ length out) where
+  abbrev w : List ℕ
+  w = take minFrame out
 
-  pub row-59 : n ≡ 59 → l ≡ w ++ replicate (n - 59) 2 ++ drop n out
-  row-59 k = copied ∙ rw k (ap (λ (v : List ℕ). v ++ drop 59 out) (sym (append-nil w)))
+  abbrev Ended : List ℕ → Type 0
+  Ended l = l ≡ w ++ replicate (n - minFrame) marker ++ drop n out
 
-  pub row-60 : n ≡ 60 → 60 ≤ length out → set l 59 2 ≡ w ++ replicate (n - 59) 2 ++ drop n out
-  row-60 k b = ap (λ (v : List ℕ). set v 59 2) copied ∙ rw k (marked w out 59 e (omega arith))
+  whole : out ≡ w ++ drop minFrame out
+  whole = sym (take-append-drop minFrame out)
 
-  pub row-61 : n ≡ 61 → 61 ≤ length out → set (set l 59 2) 60 2 ≡ w ++ replicate (n - 59) 2 ++ drop n out
-  row-61 k b =
-      let f : length (w ++ (2 ∷ [])) ≡ 60 = omega (arith, length-append w (2 ∷ []), e) in
-      ap (λ (v : List ℕ). set (set v 59 2) 60 2) copied
-      ∙ ap (λ (v : List ℕ). set v 60 2) (marked w out 59 e (omega arith))
-      ∙ marked (w ++ (2 ∷ [])) out 60 f (omega arith)
-      ∙ rw k (ap (λ (v : List ℕ). v ++ drop 61 out) (append-assoc w (2 ∷ []) (2 ∷ [])))
+  row-length : minFrame ≤ length out → length w ≡ minFrame
+  row-length h = length-take-le minFrame out h
 
--- the symbols of a minute, from its row
-pub symbols-are : (r : Values) (x : Fields) (v w l out : List ℕ) → x ≡ fieldsOf r → v ≡ digits x → w ≡ fill table1 v
-    → l ≡ w ++ replicate (r .seconds - 59) 2 ++ drop (r .seconds) out → l ≡ symbols r ++ drop (r .seconds) out
+  pub no-marker : n ≡ 59 → Ended out
+  no-marker k = whole ∙ rw k (ap (λ (v : List ℕ). v ++ drop 59 out) (sym (append-nil w)))
+
+  pub one-marker : n ≡ 60 → Ended (set out 59 marker)
+  one-marker k = ap (λ (v : List ℕ). set v 59 marker) whole ∙ rw k (marked w out 59 (row-length (omega arith)) (omega arith))
+
+  pub two-markers : n ≡ 61 → Ended (set (set out 59 marker) 60 marker)
+  two-markers k =
+      let f : length (w ++ (marker ∷ [])) ≡ 60 = omega (arith, length-append w (marker ∷ []), row-length (omega arith)) in
+      ap (λ (v : List ℕ). set (set v 59 marker) 60 marker) whole
+      ∙ ap (λ (v : List ℕ). set v 60 marker) (marked w out 59 (row-length (omega arith)) (omega arith))
+      ∙ marked (w ++ (marker ∷ [])) out 60 f (omega arith)
+      ∙ rw k (ap (λ (v : List ℕ). v ++ drop 61 out) (append-assoc w (marker ∷ []) (marker ∷ [])))
+
+-- the symbols of a minute: its row in l, and the markers in m
+pub symbols-are : (r : Values) (x : Fields) (l m out : List ℕ) → minFrame ≤ r .seconds → x ≡ fieldsOf r → l ≡ fill table1 (digits x) ++ drop minFrame out
+    → m ≡ take minFrame l ++ replicate (r .seconds - minFrame) marker ++ drop (r .seconds) l → m ≡ symbols r ++ drop (r .seconds) out
 unfolding symbols
-symbols-are r x v w l out ex ev ew el = el ∙ rw (ew, ev, ex)
+symbols-are r x l m out h ex el em =
+    let row = fill table1 (digits x) in
+    let n = length-row (digits x) in
+    let e : r .seconds ≡ minFrame + (r .seconds - minFrame) = omega arith in
+    let d : drop (r .seconds) (row ++ drop minFrame out) ≡ drop (r .seconds) out =
+    rw e (sym (drop-drop (r .seconds - minFrame) minFrame (row ++ drop minFrame out)) ∙ rw (drop-at row (drop minFrame out) minFrame n) (drop-drop (r .seconds - minFrame) minFrame out)) in
+    em ∙ rw (el, take-at row (drop minFrame out) minFrame n, d, ex)

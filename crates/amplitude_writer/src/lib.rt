@@ -3,18 +3,19 @@ ghost use mathlib.Core.Path.{_≡_};
 ghost use mathlib.Core.Bool.{true};
 ghost use mathlib.Core.List.{_++_};
 ghost use Prim.Native.Nat.{_-_, _≤_, _<_};
-ghost use lib.ListN.{length, drop, replicate};
+ghost use lib.ListN.{length, take, drop, replicate};
 ghost use Rattle.calendar.specs.Calendar.{minuteCount};
 ghost use Rattle.codewords.specs.CodeWords.{daylightNumber};
-ghost use Rattle.plan.specs.Plan.{daylightAt};
-ghost use Rattle.amplitude_rules.specs.Amplitude.{digits, signBits, legalSign, legalUT1, legalValues, fieldsOf, symbols};
+ghost use Rattle.plan.specs.Plan.{minFrame, maxFrame, daylightAt};
+ghost use Rattle.symbols.specs.Symbols.{marker};
+ghost use Rattle.amplitude_rules.specs.Amplitude.{signBits, legalSign, legalUT1, legalValues, fieldsOf, symbols};
 ghost use Rattle.amplitude_rules.specs.Writing.{warningAt, valuesAt, writeAmplitude, symbolsWritten};
-ghost use Rattle.amplitude_row.specs.Row.{rowNumbers};
 ghost use Rattle.amplitude_writer.specs.Answer.{writeRefusalNumber, writeNumbers};
 use amplitude_row::LEAP_SECOND;
 use amplitude_row::MARKER;
+use amplitude_row::MINUS;
+use amplitude_row::PLUS;
 use amplitude_row::ROW;
-use amplitude_row::Row;
 use amplitude_rules::Fields;
 use amplitude_rules::Values;
 use calendar::Date;
@@ -69,7 +70,7 @@ fn sign_bits(sign: i32) -> u32
     requires { ⌜ legalSign sign ≡ true ⌝ }
     ensures { λ r. ⌜ r ≡ signBits sign ⌝ }
 {
-    if sign == 1 { 0b101 } else { 0b010 }
+    if sign == 1 { PLUS } else { MINUS }
 }
 
 // The leap warning of a minute.
@@ -88,9 +89,7 @@ fn daylight(plan: Plan, minute: u32) -> u32
     requires { ⌜ minute < minuteCount ⌝ }
     ensures { λ r. ⌜ r ≡ daylightNumber (daylightAt plan minute) ⌝ }
 {
-    let state = plan.state(minute);
-    let daylight = state.daylight;
-    codewords::daylight_number(daylight) as u32
+    codewords::daylight_number(plan.daylight(minute)) as u32
 }
 
 // The values that a plan gives a minute, with the caller's UT1.
@@ -128,42 +127,13 @@ fn fields_of(r: Values) -> Fields
     }
 }
 
-fn narrow(x: u32) -> u8
-    requires { ⌜ x < 256 ⌝ }
-    ensures { λ r. ⌜ r ≡ x ⌝ }
+// Writes the markers after second 58.
+fn put_ends(seconds: usize, out: &mut [u8])
+    requires { ⌜ (minFrame ≤ seconds) × (seconds ≤ maxFrame) × (seconds ≤ length (now out)) ⌝ }
+    ensures { λ r.
+        ⌜ now (out .exit)
+        ≡ take minFrame (now (out .entry)) ++ replicate (seconds - minFrame) marker ++ drop seconds (now (out .entry)) ⌝ }
 {
-    x as u8
-}
-
-// The numbers of fields, each decimal digit a number.
-fn row_of(x: Fields) -> Row
-    requires { ⌜ (x .minute < 60) × (x .hour < 24) × (x .day < 400) × (x .sign < 8) × (x .tenths ≤ 9) × (x .year < 100) × (x .leap < 2) × (x .warning < 2) × (x .daylight < 4) ⌝ }
-    ensures { λ r. ⌜ rowNumbers r ≡ digits x ⌝ }
-{
-    Row {
-        minute_tens: narrow(x.minute / 10),
-        minute_units: narrow(x.minute % 10),
-        hour_tens: narrow(x.hour / 10),
-        hour_units: narrow(x.hour % 10),
-        day_hundreds: narrow(x.day / 100),
-        day_tens: narrow(x.day / 10 % 10),
-        day_units: narrow(x.day % 10),
-        sign: narrow(x.sign),
-        tenths: narrow(x.tenths),
-        year_tens: narrow(x.year / 10),
-        year_units: narrow(x.year % 10),
-        leap: narrow(x.leap),
-        warning: narrow(x.warning),
-        daylight: narrow(x.daylight),
-    }
-}
-
-// Writes the symbols of a row, and markers after second 58.
-fn put_row(row: [u8; ROW], seconds: usize, out: &mut [u8])
-    requires { ⌜ (59 ≤ seconds) × (seconds ≤ 61) × (seconds ≤ length (now out)) ⌝ }
-    ensures { λ r. ⌜ now (out .exit) ≡ row ++ replicate (seconds - 59) 2 ++ drop seconds (now (out .entry)) ⌝ }
-{
-    bytes::copy(&row, out);
     if seconds <= ROW {
         return;
     }
@@ -179,13 +149,15 @@ fn put(r: Values, out: &mut [u8])
     requires { ⌜ (legalValues r ≡ true) × (r .seconds ≤ length (now out)) ⌝ }
     ensures { λ u. ⌜ now (out .exit) ≡ symbols r ++ drop (r .seconds) (now (out .entry)) ⌝ }
 {
-    let row = amplitude_row::symbols(row_of(fields_of(r)));
-    put_row(row, r.seconds as usize, out);
+    amplitude_row::put_row(fields_of(r), out);
+    put_ends(r.seconds as usize, out);
 }
 
 // Writes one minute; a refused one leaves the buffer as it was.
 pub fn write_minute(plan: Plan, minute: u32, sign: i32, tenths: u32, out: &mut [u8]) -> WriteAnswer
-    ensures { λ r. ⌜ (writeNumbers r ≡ writeAmplitude plan minute sign tenths (length (now (out .entry)))) × (now (out .exit) ≡ symbolsWritten plan minute sign tenths (now (out .entry))) ⌝ }
+    ensures { λ r.
+        ⌜ (writeNumbers r ≡ writeAmplitude plan minute sign tenths (length (now (out .entry))))
+        × (now (out .exit) ≡ symbolsWritten plan minute sign tenths (now (out .entry))) ⌝ }
 {
     if !plan.is_legal() {
         return WriteAnswer::Refused(WriteRefusal::IllegalPlan);

@@ -1,16 +1,16 @@
 -- A row of parts after parts, and a row without markers as the bits of one number.
 -- Assumes nothing.
-use Prim.Native.Nat.{ℕ, zero, suc, _+_, _≤_}
+use Prim.Native.Nat.{ℕ, suc, _+_, _≤_}
 use mathlib.Core.Bool.{Bool, true, _&&_, and-assoc}
 use mathlib.Core.List.{List, [], _∷_, _++_}
 use mathlib.Core.Path.{_≡_, refl, sym, ap}
 use native.Mathlib.Omega.{arith}
 use lib.Dec.{leb, eqb}
 use lib.ListN.{length, take, drop, length-drop, take-append-drop}
-use lib.Seq.{take-nil, take-take, drop-drop, length-take-le}
+use lib.Seq.{take-take, drop-drop, length-take-le}
 use borrow.Author.Tests.{le-leb, eqb-true}
 use Rattle.bits.specs.Bits.{number, isBit, all, Binary}
-use Rattle.bits.proofs.Parts.{binary-append}
+use Rattle.bits.proofs.Parts.{binary-append, drop-take}
 use Rattle.bits.proofs.Tests.{head-true, tail-true, binary}
 use Rattle.symbols.specs.Symbols.{Part, mark, blank, high, fits, numbers}
 
@@ -20,11 +20,6 @@ width [] = 0
 width (mark ∷ ps) = suc (width ps)
 width (blank ∷ ps) = suc (width ps)
 width (high n ∷ ps) = n + width ps
-
-pub drop-take : (n w : ℕ) (s : List ℕ) → drop n (take (n + w) s) ≡ take w (drop n s)
-drop-take zero w s = let e : zero + w ≡ w = omega arith in rw e
-drop-take (suc n) w [] = let e : suc n + w ≡ suc (n + w) = omega arith in rw e (sym (take-nil w))
-drop-take (suc n) w (x ∷ s) = let e : suc n + w ≡ suc (n + w) = omega arith in rw e (drop-take n w s)
 
 -- the first n of n + w symbols, and the others
 module _ (n w : ℕ) (s : List ℕ) (h : n + w ≤ length s) where

@@ -8,7 +8,11 @@ use lib.Dec.{leb, eqb}
 use lib.ListN.{length, take, drop, getD}
 use Rattle.bits.specs.Bits.{bits, number, isBit, all}
 
--- a part of a row: a marker, which is the symbol 2; a place that is always 0; a number of n bits, the highest first
+-- the symbol of a marker
+abbrev pub marker : ℕ
+marker = 2
+
+-- a part of a row: a marker; a place that is always 0; a number of n bits, the highest first
 pub data Part : Type 0 where
   mark : Part
   blank : Part
@@ -17,14 +21,14 @@ pub data Part : Type 0 where
 -- the row of these parts, with these numbers in their order
 unfoldable pub fill : List Part → List ℕ → List ℕ
 fill [] vs = []
-fill (mark ∷ ps) vs = 2 ∷ fill ps vs
+fill (mark ∷ ps) vs = marker ∷ fill ps vs
 fill (blank ∷ ps) vs = 0 ∷ fill ps vs
 fill (high n ∷ ps) vs = bits n (getD vs 0 0) ++ fill ps (drop 1 vs)
 
 -- whether a row has these parts and no more
 unfoldable pub fits : List Part → List ℕ → Bool
 fits [] s = eqb (length s) 0
-fits (mark ∷ ps) s = eqb (getD s 0 0) 2 && fits ps (drop 1 s)
+fits (mark ∷ ps) s = eqb (getD s 0 0) marker && fits ps (drop 1 s)
 fits (blank ∷ ps) s = leb 1 (length s) && eqb (getD s 0 0) 0 && fits ps (drop 1 s)
 fits (high n ∷ ps) s = leb n (length s) && all isBit (take n s) && fits ps (drop n s)
 

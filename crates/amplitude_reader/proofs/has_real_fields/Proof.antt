@@ -6,7 +6,8 @@ use native.Mathlib.Omega.{arith}
 use borrow.Author.Tests.{lt-ltb, le-ltb, le-leb, lt-leb, not-true, not-false}
 use Rattle.gregorian.specs.Gregorian.{firstYear, yearLength}
 use Rattle.amplitude_rules.specs.Reading.{realFields}
-use Rattle.amplitude_reader.proofs.Reading.{year-length, mark-small}
+use Rattle.amplitude_rules.proofs.Facts.{mark-small}
+use Rattle.amplitude_reader.proofs.Reading.{year-length}
 use borrow.Author.Needs.{needs}
 use Rattle.amplitude_reader.proofs.has_real_fields.Statement.{statement}
 use Rattle.amplitude_reader.proofs.has_real_fields.Tie as tie
@@ -50,9 +51,10 @@ add-if5 c = omega (arith, c .leap-mark .ensures, mark-small (firstYear + c .befo
 returns-5 : tie.Need-returns-5
 unfolding realFields
 returns-5 c =
-    let x = c .before .before .before .before .before .before .before .before .before .before .before .args .x in
+    let s = c .before .before .before .before .before .before .before .before .before in
+    let x = s .before .before .args .x in
     rw (
-      sym (c .before .before .before .before .before .before .before .before .before .before .is-sign .ensures) ∙ not-false _ (c .before .before .before .before .before .before .before .before .before .if1 .left),
+      sym (s .before .is-sign .ensures) ∙ not-false _ (s .if1 .left),
       lt-ltb _ _ (c .before .before .before .before .before .before .before .if2 .left),
       lt-ltb _ _ (c .before .before .before .before .before .if3 .left),
       le-leb 1 _ (c .before .before .before .if4 .left),
@@ -62,15 +64,16 @@ returns-5 c =
 returns-6 : tie.Need-returns-6
 unfolding realFields
 returns-6 c =
-    let x = c .before .before .before .before .before .before .before .before .before .before .before .before .args .x in
-    let s = c .before .before .before in
+    let s = c .before .before .before .before .before .before .before .before .before .before in
+    let x = s .before .before .args .x in
+    let l = c .before .before .before .leap-mark .ensures in
     rw (
-      sym (c .before .before .before .before .before .before .before .before .before .before .before .is-sign .ensures) ∙ not-false _ (c .before .before .before .before .before .before .before .before .before .before .if1 .left),
+      sym (s .before .is-sign .ensures) ∙ not-false _ (s .if1 .left),
       lt-ltb _ _ (c .before .before .before .before .before .before .before .before .if2 .left),
       lt-ltb _ _ (c .before .before .before .before .before .before .if3 .left),
       le-leb 1 _ (c .before .before .before .before .if4 .left),
-      le-leb (x .day) (yearLength (firstYear + x .year)) (rw (year-length (firstYear + x .year), ← s .leap-mark .ensures) (c .before .if5 .left)),
-      s .leap-mark .ensures,
+      le-leb (x .day) (yearLength (firstYear + x .year)) (rw (year-length (firstYear + x .year), ← l) (c .before .if5 .left)),
+      l,
     )
 
 pub has-real-fields-spec : {M : Type 1} → statement M

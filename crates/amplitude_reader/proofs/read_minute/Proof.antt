@@ -13,13 +13,13 @@ read-layout-requires c κs = search needs
 enum-known-answer : tie.Need-enum-known-answer
 enum-known-answer c = search needs
 
-cast-read-row : tie.Need-cast-read-row
-cast-read-row c =
+cast-read-numbers : tie.Need-cast-read-numbers
+cast-read-numbers c =
     let a = c .before .before .before in
     omega (arith, short-enough (a .before .before .args .symbols .now) (a .read-layout .result) (a .read-layout .ensures) _ (c .before .answer .given .1))
 
-read-row-requires : tie.Need-read-row-requires
-read-row-requires c κs = search needs
+read-numbers-requires : tie.Need-read-numbers-requires
+read-numbers-requires c κs = search needs
 
 enum-told : tie.Need-enum-told
 enum-told c = search needs
@@ -27,7 +27,7 @@ enum-told c = search needs
 returns : tie.Need-returns
 returns c =
     let a = c .before .before .before .before in
-    c .read-row .ensures
+    c .read-numbers .ensures
     ∙ by-fields (a .before .before .args .symbols .now) (a .read-layout .result) (a .read-layout .ensures) _ (c .before .before .answer .given .1)
 
 returns-2 : tie.Need-returns-2
@@ -41,8 +41,8 @@ read-minute-spec =
     (tie.spec
     read-layout-requires
     enum-known-answer
-    cast-read-row
-    read-row-requires
+    cast-read-numbers
+    read-numbers-requires
     enum-told
     returns
     returns-2)

@@ -3,9 +3,8 @@
 use Prim.Native.Nat.{_/_}
 use native.Mathlib.Omega.{arith}
 use Rattle.gregorian.proofs.Months.{placed, year-low, year-rest-is, year-index}
-use Rattle.amplitude_rules.proofs.Facts.{legal}
+use Rattle.amplitude_rules.proofs.Facts.{legal, legal-through}
 use Rattle.amplitude_rules.specs.Amplitude.{fieldsOf}
-use Rattle.amplitude_writer.proofs.Written.{legal-through}
 use borrow.Author.Needs.{needs}
 use Rattle.amplitude_writer.proofs.fields_of.Statement.{statement}
 use Rattle.amplitude_writer.proofs.fields_of.Tie as tie

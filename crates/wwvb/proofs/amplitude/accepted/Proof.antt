@@ -1,7 +1,6 @@
 -- `wwvb::amplitude::accepted` meets its contract.
 -- Assumes nothing.
-use Rattle.amplitude_rules.proofs.Facts.{legal}
-use Rattle.amplitude_writer.proofs.Written.{legal-through}
+use Rattle.amplitude_rules.proofs.Facts.{legal, legal-through}
 use Rattle.wwvb.specs.Amplitude.{acceptedReply}
 use Rattle.wwvb.proofs.amplitude.accepted.Statement.{statement}
 use Rattle.wwvb.proofs.amplitude.accepted.Tie as tie

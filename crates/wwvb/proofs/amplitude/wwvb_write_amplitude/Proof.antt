@@ -28,13 +28,15 @@ module _ (a : tie.Start) where
   abbrev through : ℤ → ℤ
   through z = toZ w32 (ofZ w32 z)
 
-  numbers : {w : Numbers} → w ≡ writeAmplitude (plan (through (a .args .leap-sign))) (a .args .minute) (through (a .args .ut1-sign)) (a .args .ut1-tenths) (length (a .args .out .now))
-      → w ≡ writeAmplitude (plan (a .args .leap-sign)) (a .args .minute) (a .args .ut1-sign) (a .args .ut1-tenths) (length (a .args .out .now))
-  numbers e = e ∙ ap₂ (λ (z y : ℤ). writeAmplitude (plan z) (a .args .minute) y (a .args .ut1-tenths) (length (a .args .out .now))) (toZ-ofZ (a .fits .leap-sign)) (toZ-ofZ (a .fits .ut1-sign))
+  -- what a function of both signs gives
+  by-signs : {A : Type 0} {x : A} (f : ℤ → ℤ → A) → x ≡ f (through (a .args .leap-sign)) (through (a .args .ut1-sign)) → x ≡ f (a .args .leap-sign) (a .args .ut1-sign)
+  by-signs f e = e ∙ ap₂ f (toZ-ofZ (a .fits .leap-sign)) (toZ-ofZ (a .fits .ut1-sign))
 
-  after : {l : List ℕ} → l ≡ symbolsWritten (plan (through (a .args .leap-sign))) (a .args .minute) (through (a .args .ut1-sign)) (a .args .ut1-tenths) (a .args .out .now)
-      → l ≡ symbolsWritten (plan (a .args .leap-sign)) (a .args .minute) (a .args .ut1-sign) (a .args .ut1-tenths) (a .args .out .now)
-  after e = e ∙ ap₂ (λ (z y : ℤ). symbolsWritten (plan z) (a .args .minute) y (a .args .ut1-tenths) (a .args .out .now)) (toZ-ofZ (a .fits .leap-sign)) (toZ-ofZ (a .fits .ut1-sign))
+  abbrev numbersBy : ℤ → ℤ → Numbers
+  numbersBy z y = writeAmplitude (plan z) (a .args .minute) y (a .args .ut1-tenths) (length (a .args .out .now))
+
+  abbrev bufferBy : ℤ → ℤ → List ℕ
+  bufferBy z y = symbolsWritten (plan z) (a .args .minute) y (a .args .ut1-tenths) (a .args .out .now)
 
 refused-reply : (x : WriteRefusal) → writeRefusalNumber x ∷ 0 ∷ [] ≡ replyNumbers 1 (writeNumbers (Refused x))
 unfolding replyNumbers
@@ -66,7 +68,7 @@ unfolding replyNumbers
 returns c =
     let w = c .before .before .before .before .before .write-minute in
     let a = c .before .before .before .before .before .before .before .before in
-    (ap (replyNumbers 1) (numbers a (ap writeNumbers (sym (c .before .answer .given .1)) ∙ w .ensures .0)), after a (w .ensures .1))
+    (ap (replyNumbers 1) (by-signs a (numbersBy a) (ap writeNumbers (sym (c .before .answer .given .1)) ∙ w .ensures .0)), by-signs a (bufferBy a) (w .ensures .1))
 
 same-length-2 : tie.Need-same-length-2
 same-length-2 c = search needs
@@ -76,8 +78,10 @@ returns-2 c =
     let w = c .before .before .before .before .before .before .write-minute in
     let a = c .before .before .before .before .before .before .before .before .before in
     let s = c .before .before in (
-      ap (λ (n : ℕ). n ∷ 0 ∷ []) (c .number .ensures) ∙ refused-reply (s .answer2 .given .0 .0) ∙ ap (replyNumbers 1) (numbers a (ap writeNumbers (sym (s .answer2 .given .1)) ∙ w .ensures .0)),
-      after a (w .ensures .1),
+      ap (λ (n : ℕ). n ∷ 0 ∷ []) (c .number .ensures)
+          ∙ refused-reply (s .answer2 .given .0 .0)
+          ∙ ap (replyNumbers 1) (by-signs a (numbersBy a) (ap writeNumbers (sym (s .answer2 .given .1)) ∙ w .ensures .0)),
+      by-signs a (bufferBy a) (w .ensures .1),
     )
 
 pub wwvb-write-amplitude-spec : {M : Type 1} → statement M

@@ -1,12 +1,13 @@
--- `amplitude_reader::read_row` meets its contract.
+-- `amplitude_reader::read_numbers` meets its contract.
 -- Assumes nothing.
 use mathlib.Core.Path.{sym, _∙_}
 use borrow.Author.Tests.{not-true, not-false}
 use Rattle.amplitude_row.specs.Row.{rowNumbers}
-use Rattle.amplitude_reader.proofs.Reading.{year-small, not-decimal, no-fields, no-length, all-fit}
+use Rattle.amplitude_rules.proofs.Facts.{year-small}
+use Rattle.amplitude_reader.proofs.Reading.{not-decimal, no-fields, no-length, all-fit}
 use borrow.Author.Needs.{needs}
-use Rattle.amplitude_reader.proofs.read_row.Statement.{statement}
-use Rattle.amplitude_reader.proofs.read_row.Tie as tie
+use Rattle.amplitude_reader.proofs.read_numbers.Statement.{statement}
+use Rattle.amplitude_reader.proofs.read_numbers.Tie as tie
 
 has-decimal-digits-requires : tie.Need-has-decimal-digits-requires
 has-decimal-digits-requires c κs = search needs
@@ -59,8 +60,8 @@ returns-4 c =
     (sym (c .before .before .before .before .has-real-fields .ensures) ∙ not-false _ (c .before .before .before .if2 .left))
     (u .values-of .ensures) (sym (c .before .length-fits .ensures) ∙ c .if3 .left)
 
-pub read-row-spec : {M : Type 1} → statement M
-read-row-spec =
+pub read-numbers-spec : {M : Type 1} → statement M
+read-numbers-spec =
     tie.close
     (tie.spec
     has-decimal-digits-requires
