@@ -1,7 +1,7 @@
 /*
- * wwvb.h: the WWVB phase code at one bit a second: recordings of time frames, written and read;
- * the amplitude code: one minute a call, written and read; dates and local dates. C99 or later,
- * C++11 or later.
+ * wwvb.h: the two codes of WWVB, written and read, and dates and local dates. The phase code has
+ * one bit a second and comes in recordings of time frames. The amplitude code is written and read
+ * one minute a call. C99 or later, C++11 or later.
  * SPDX-License-Identifier: Apache-2.0
  *
  * A bit is a byte of value 0 or 1, the first sent first. A frame is one minute: 60 bits, or 59 or
@@ -19,17 +19,17 @@
  * A length of 0 is an ordinary input. The library allocates nothing, keeps no state and calls no
  * other library. Any number of threads may call it at the same time.
  *
- * Each call makes its checks in one order, and its comment lists the refusals in that order. The
+ * Each call makes its checks in a fixed order; its comment lists the refusals in that order. The
  * first check that fails gives the refusal, and later ones are not made. WWVB_OK, 0, means that
  * all passed.
  *
- * Which minutes to trust, in the phase code: in a recording read completely from a frame's first
- * bit, a false minute takes two inverted time bits in every frame, and three in each frame with
- * place 0. Judge by a minute only if the reading is complete (refusal 0) and at least one of its
- * frames has place 0. Where the start was searched for, use two frames in order: LIVE INPUT in
- * wwvb(3) says how.
- * The amplitude code has no check bits: one wrong symbol can make another legal minute, and no
- * refusal tells of it. It is for wall clocks. Do not judge by its minutes.
+ * Which minutes to trust: this is about the phase code. In a recording read completely from a
+ * frame's first bit, a false minute takes two inverted time bits in every frame, and three in each
+ * frame with place 0. Judge by a minute only if the reading is complete (refusal 0) and at least
+ * one of its frames has place 0. Where the start was searched for, use two frames in order: LIVE
+ * INPUT in wwvb(3) says how.
+ * The amplitude code has no check bits: one wrong symbol can make another legal minute, which is
+ * not refused. It is for wall clocks; do not base decisions on its minutes.
  *
  * The library has eight calls. Everything else is static inline in this file: structs for plans
  * and entries, names and texts of refusals.
@@ -86,15 +86,16 @@ extern "C" {
  * Refusals
  */
 
-/* Writing is wwvb_write_recording and wwvb_write_amplitude, and their inline forms; the second
-   makes no check 2. Reading is wwvb_read_frame and wwvb_read_recording, which makes checks 5 to 14
-   for each frame. What concerns the amplitude code alone says so. */
+/* Writing means wwvb_write_recording, wwvb_write_amplitude and their inline forms;
+   wwvb_write_amplitude makes no check 2. Reading means wwvb_read_frame and wwvb_read_recording.
+   The latter makes checks 5 to 14 for each frame. Comments name the amplitude code where they are
+   about it. */
 enum wwvb_refusal {
     WWVB_OK = 0,               /* every check passed */
     WWVB_ILLEGAL_PLAN = 1,     /* writing: the plan is not legal */
     WWVB_BAD_COUNT = 2,        /* writing a recording: the count is not 1 to 1,000 */
-    WWVB_MINUTE_TOO_LARGE = 3, /* writing: the last minute is past 52,595,999;
-                                  minute to date, local date: the minute is */
+    WWVB_MINUTE_TOO_LARGE = 3, /* writing: the minute, or the last of a recording, is past
+                                  52,595,999; minute to date, local date: the minute is */
     WWVB_NO_BIT_SPACE = 4,     /* writing: the buffer does not hold all the bits or symbols */
     WWVB_NO_ENTRY_SPACE = 5,   /* reading: fewer than 12 entry bytes are free */
     WWVB_TOO_SHORT = 6,        /* reading: fewer than 59 bits are left */
@@ -114,9 +115,9 @@ enum wwvb_refusal {
     WWVB_BAD_SYMBOLS = 17,     /* reading the amplitude code: not 59 to 61 symbols, a byte above 2,
                                   a marker missing or elsewhere, or a fixed 0 that is not 0 */
     WWVB_BAD_VALUE = 18        /* writing the amplitude code: the UT1 sign is not +1 or -1, or the
-                                  tenths are above 9; reading it: a digit, the UT1 sign or a field
-                                  is out of range, the leap-year mark does not fit the year, or the
-                                  length does not fit date and warning */
+                                  tenths are above 9. Reading it: a digit, the UT1 sign or a field
+                                  is out of range, or the leap-year mark or the length does not fit
+                                  the rest. */
 };
 
 /* Each refusal with a sentence for people. A new refusal takes a line above and a line here. */
@@ -266,7 +267,7 @@ typedef struct wwvb_amplitude_reply {
     uint32_t hour;
     uint32_t minute;     /* of the hour, 0 to 59 */
     uint32_t weekday;    /* 0 is Saturday, 6 is Friday */
-    int32_t ut1_sign;    /* the sign of UT1 less UTC: +1 or -1 */
+    int32_t ut1_sign;    /* the sign of UT1 minus UTC: +1 or -1 */
     uint32_t ut1_tenths; /* its tenths of a second, 0 to 9 */
     uint32_t warning;    /* 1 if the month ends with a leap second, of either sign; else 0 */
     uint32_t daylight;   /* enum wwvb_daylight */
@@ -355,11 +356,12 @@ WWVB_MUST_USE wwvb_read_reply wwvb_read_recording(const uint8_t *bits, size_t bi
 /*
  * Writes one minute in the amplitude code, a symbol a second, by a plan as above, and
  *   minute      the minute number
- *   ut1_sign    the sign of UT1 less UTC: +1 or -1
+ *   ut1_sign    the sign of UT1 minus UTC: +1 or -1
  *   ut1_tenths  its tenths of a second, 0 to 9; plus 0 and minus 0 are written differently
- * Of the plan the daylight state is sent, and a warning in every minute of the leap month; rows,
- * leap sign and notice are not, but are checked. The length is that of the minute's frame.
- * AMPLITUDE CODE in wwvb(3) has the seconds of each field.
+ * The plan's daylight state is sent, and the warning in every minute of the leap month. Rows, leap
+ * sign and notice are checked but not sent. The reply's field `bits` is the number of symbols, 59,
+ * 60 or 61, as many as the minute's frame has bits. AMPLITUDE CODE in wwvb(3) has the seconds of
+ * each field.
  * Refusals: WWVB_ILLEGAL_PLAN (1), WWVB_MINUTE_TOO_LARGE (3), WWVB_BAD_VALUE (18) for the UT1 sign
  * or the tenths, WWVB_NO_BIT_SPACE (4). An `out_length` of WWVB_MAX_FRAME is always enough.
  * After the call `out` holds the symbols from out[0] on, and every byte after the last symbol is
@@ -375,14 +377,16 @@ WWVB_MUST_USE wwvb_write_reply wwvb_write_amplitude(uint32_t kind, uint32_t spri
 /*
  * Reads one minute of the amplitude code, which is all of `symbols`. Refusals: WWVB_BAD_SYMBOLS
  * (17), checked over the whole minute, then WWVB_BAD_VALUE (18):
- *   17  the length is not 59 to 61; a byte is above 2; a marker is missing, at seconds 59 and 60
- *       too, or stands elsewhere; a second that is always 0 is not 0
- *   18  a decimal digit is above 9; the UT1 sign is neither 101 nor 010; the minute is above 59,
- *       the hour above 23, or the year has no such day; the leap-year mark does not fit the year;
- *       the length does not fit date and warning
+ *   17  the length is not 59 to 61, or a byte is above 2
+ *   17  a marker is missing, at seconds 59 and 60 too, or stands elsewhere
+ *   17  a second that is always 0 is not 0
+ *   18  a decimal digit is above 9, or the UT1 sign is neither 101 nor 010
+ *   18  the minute is above 59, the hour above 23, or the year has no such day
+ *   18  the leap-year mark does not fit the year, or the length does not fit date and warning
  * With the warning the last minute of a month has 59 or 61 symbols, never 60; every other minute
- * has 60. Daylight state and warning are not checked against any plan. Two digits of the year are
- * sent, and the year given is 2000 to 2099.
+ * has 60. Daylight state and warning are not compared with a plan, so a warning may come in any
+ * month. Two digits of the year are sent, and the year given is 2000 to 2099. wwvb_date_to_minute
+ * gives the minute number of the date.
  * A minute that wwvb_write_amplitude writes is read as sent: it has the date, the daylight state
  * and the length of the same minute's frame. But the code has no check bits: one wrong symbol can
  * make another legal minute.

@@ -1101,11 +1101,49 @@ static void boundary_recordings(void)
     try_read(bits, 0, 12);
 }
 
-/* Writing in the amplitude code: rows, kinds, leap months and signs; UT1 signs and tenths; every
-   length of the buffer; and two checks that would fail, to see their order. */
-static void boundary_write_amplitude(void)
+/* Writing in the amplitude code by every kind, and by rows in and out of range. */
+static void boundary_write_amplitude_rows(void)
 {
     static const uint32_t rows[] = {0, 1, 24, 25, 48, 49, 0xffffffffu};
+    uint32_t kind;
+    size_t i, k;
+
+    for (kind = 0; kind <= 4; kind++)
+        for (i = 0; i < sizeof rows / sizeof *rows; i++)
+            for (k = 0; k < sizeof rows / sizeof *rows; k++) {
+                struct ref_plan q = {0, 0, 0, 0, 0, 0};
+                q.kind = kind < 4 ? kind : 0xffffffffu;
+                q.spring = rows[i];
+                q.autumn = rows[k];
+                try_write_amplitude(&q, below(MINUTES), 1, 0, 61);
+                q.notice = 1 + below(2);
+                try_write_amplitude(&q, below(MINUTES), -1, 9, 61);
+            }
+}
+
+/* Each month's end, by every leap sign. */
+static void boundary_write_amplitude_months(void)
+{
+    uint32_t month, m;
+    int32_t sign;
+    size_t space;
+
+    for (month = 0; month <= 1201; month++)
+        for (sign = -2; sign <= 2; sign++) {
+            struct ref_plan q = {1, 0, 0, 0, 0, 0};
+            uint32_t end = month_end(month < 1200 ? month : 1199);
+            q.leap_month = month;
+            q.leap_sign = sign;
+            q.notice = month % 3;
+            for (m = end - 1; m <= end + 1; m++)
+                for (space = 58; space <= 62; space++)
+                    try_write_amplitude(&q, m, month % 2 ? 1 : -1, month % 10, space);
+        }
+}
+
+/* UT1 signs, tenths and minutes, in and out of range. */
+static void boundary_write_amplitude_ut1(void)
+{
     static const int32_t signs[] = {
         INT32_MIN, INT32_MIN + 1, -65537, -65535, -257, -256, -255, -129, -128, -127, -2, -1,
         0, 1, 2, 5, 127, 128, 255, 256, 257, 65535, 65537, INT32_MAX - 1, INT32_MAX,
@@ -1119,37 +1157,21 @@ static void boundary_write_amplitude(void)
         67108863, 0x7fffffffu, 0x80000000u, 0xffffffffu,
     };
     struct ref_plan p = {0, 10, 37, 149, 1, 0};
-    uint32_t kind, month, m;
-    int32_t sign;
-    size_t i, k, space;
+    size_t i, k, m;
 
-    for (kind = 0; kind <= 4; kind++)
-        for (i = 0; i < sizeof rows / sizeof *rows; i++)
-            for (k = 0; k < sizeof rows / sizeof *rows; k++) {
-                struct ref_plan q = {0, 0, 0, 0, 0, 0};
-                q.kind = kind < 4 ? kind : 0xffffffffu;
-                q.spring = rows[i];
-                q.autumn = rows[k];
-                try_write_amplitude(&q, below(MINUTES), 1, 0, 61);
-                q.notice = 1 + below(2);
-                try_write_amplitude(&q, below(MINUTES), -1, 9, 61);
-            }
-    /* each month's end, by every leap sign */
-    for (month = 0; month <= 1201; month++)
-        for (sign = -2; sign <= 2; sign++) {
-            struct ref_plan q = {1, 0, 0, 0, 0, 0};
-            uint32_t end = month_end(month < 1200 ? month : 1199);
-            q.leap_month = month;
-            q.leap_sign = sign;
-            q.notice = month % 3;
-            for (m = end - 1; m <= end + 1; m++)
-                for (space = 58; space <= 62; space++)
-                    try_write_amplitude(&q, m, month % 2 ? 1 : -1, month % 10, space);
-        }
     for (i = 0; i < sizeof signs / sizeof *signs; i++)
         for (k = 0; k < sizeof tenths / sizeof *tenths; k++)
             for (m = 0; m < sizeof minutes / sizeof *minutes; m++)
                 try_write_amplitude(&p, minutes[m], signs[i], tenths[k], below(2) * 61);
+}
+
+/* Every length of the buffer, and two checks that would fail, to see their order. */
+static void boundary_write_amplitude_space(void)
+{
+    struct ref_plan p = {0, 10, 37, 149, 1, 0};
+    int32_t sign;
+    size_t space;
+
     for (sign = -1; sign <= 1; sign++)
         for (space = 0; space <= 70; space++) {
             p.leap_sign = sign;
@@ -1164,25 +1186,30 @@ static void boundary_write_amplitude(void)
             try_write_amplitude(&p, MINUTES, 0, 10, space);
             p.notice = 0;
         }
-    /* a day of every minute, and every day */
+}
+
+/* A day of every minute, and every day. */
+static void boundary_write_amplitude_days(void)
+{
+    struct ref_plan p = {0, 10, 37, 149, 1, 0};
+    uint32_t m;
+
     for (m = 0; m < 1440; m++)
         try_write_amplitude(&p, 6573600 - 1440 + m, 1, m % 10, 61);
     for (m = 0; m < MINUTES / 1440; m++)
         try_write_amplitude(&p, m * 1440 + m % 1440, -1, m % 10, 61);
 }
 
-/* Reading the amplitude code: every length, every symbol at other values, every value of every
-   field. */
-static void boundary_read_amplitude(void)
+/* Reading the amplitude code, the last minute of June 2012 and the one before, with the warning and
+   without: all lengths, and each symbol, and each two of them, at other values. */
+static void boundary_read_amplitude_symbols(void)
 {
     static const uint8_t values[] = {0, 1, 2, 3, 4, 127, 128, 130, 254, 255};
     uint8_t symbols[72];
     struct fields f;
-    uint32_t year, day, month, hour, minute, n, k;
+    uint32_t n, k;
     size_t length, i, v;
 
-    /* the last minute of June 2012 and the one before, with the warning and without: all lengths,
-       and each symbol, and each two of them, at other values */
     for (n = 0; n < 4; n++) {
         f = fields_of(12, 182, 23, 58 + n % 2);
         f.warning = n / 2;
@@ -1207,7 +1234,16 @@ static void boundary_read_amplitude(void)
                     symbols[i] = was;
                 }
     }
-    /* every value of minute and hour, of the UT1 sign and the tenths */
+}
+
+/* Every value of minute and hour, of the UT1 sign and the tenths. */
+static void boundary_read_amplitude_fields(void)
+{
+    uint8_t symbols[61];
+    struct fields f;
+    uint32_t n;
+    size_t length;
+
     for (n = 0; n < 8 * 16 * 4 * 16; n++) {
         f = fields_of(n % 100, 1 + n % 365, 0, 0);
         f.minute[0] = n & 7;
@@ -1229,7 +1265,15 @@ static void boundary_read_amplitude(void)
         for (length = 59; length <= 61; length++)
             try_read_amplitude(symbols, length);
     }
-    /* every value of the year with either mark, and of the day in eight years */
+}
+
+/* Every value of the year with either mark, and of the day in eight years. */
+static void boundary_read_amplitude_days(void)
+{
+    uint8_t symbols[61];
+    struct fields f;
+    uint32_t n, k;
+
     for (n = 0; n < 256 * 2; n++)
         for (k = 0; k < 10; k++) {
             static const uint32_t days[5] = {1, 59, 60, 365, 366};
@@ -1250,8 +1294,16 @@ static void boundary_read_amplitude(void)
             put_fields(&f, symbols);
             try_read_amplitude(symbols, 60);
         }
-    /* the last minute of every month, and those beside it by a minute, an hour or a day: all
-       lengths, with the warning and without */
+}
+
+/* The last minute of every month, and those beside it by a minute, an hour or a day: all lengths,
+   with the warning and without. */
+static void boundary_read_amplitude_months(void)
+{
+    uint8_t symbols[61];
+    struct fields f;
+    uint32_t year, day, month, hour, minute, n;
+
     for (year = 0; year < 100; year++)
         for (month = 0; month < 12; month++)
             for (n = 0; n < 12 * 6; n++) {
@@ -1265,7 +1317,31 @@ static void boundary_read_amplitude(void)
             }
 }
 
-/* By one plan and minute both codes of the library read to the same date, daylight state and
+static void boundary_amplitude(void)
+{
+    boundary_write_amplitude_rows();
+    boundary_write_amplitude_months();
+    boundary_write_amplitude_ut1();
+    boundary_write_amplitude_space();
+    boundary_write_amplitude_days();
+    boundary_read_amplitude_symbols();
+    boundary_read_amplitude_fields();
+    boundary_read_amplitude_days();
+    boundary_read_amplitude_months();
+}
+
+/* Whether the readings of a minute in the two codes have the same date, daylight state and
+   length. */
+static int same_reading(const wwvb_amplitude_reply *a, const wwvb_entry *e)
+{
+    wwvb_date_reply d = wwvb_minute_to_date(e->minute);
+
+    return a->year == d.year && a->month == d.month && a->day == d.day && a->hour == d.hour
+        && a->minute == d.minute && a->weekday == d.weekday && a->daylight == e->daylight
+        && a->length == e->length;
+}
+
+/* For one plan and minute both codes of the library read to the same date, daylight state and
    length: the last minute of each month in 59 and in 61 seconds, and as many minutes in 60. */
 static void boundary_codes(void)
 {
@@ -1279,7 +1355,6 @@ static void boundary_codes(void)
             uint32_t minute = sign ? month_end(month) : below(MINUTES), tenths = below(10);
             wwvb_write_reply w, v;
             wwvb_amplitude_reply a;
-            wwvb_date_reply d;
             wwvb_entry e;
             p.leap_sign = sign;
             p.leap_month = sign ? month : 0;
@@ -1298,10 +1373,7 @@ static void boundary_codes(void)
             if (a.refusal != 0 || wwvb_read_frame(bits, v.bits, entry, sizeof entry) != 0)
                 fail(READ_AMPLITUDE, "the number for a minute that the library wrote");
             e = wwvb_entry_at(entry, 0);
-            d = wwvb_minute_to_date(e.minute);
-            if (a.year != d.year || a.month != d.month || a.day != d.day || a.hour != d.hour
-                || a.minute != d.minute || a.weekday != d.weekday || a.daylight != e.daylight
-                || a.length != e.length)
+            if (!same_reading(&a, &e))
                 fail(READ_AMPLITUDE, "the reading of the other code");
             if (a.ut1_sign != (sign ? sign : 1) || a.ut1_tenths != tenths
                 || a.warning != (e.leap != WWVB_LEAP_NONE))
@@ -1455,8 +1527,7 @@ int main(int argc, char **argv)
         boundary_frames();
         boundary_echoes();
         boundary_inversions();
-        boundary_write_amplitude();
-        boundary_read_amplitude();
+        boundary_amplitude();
         boundary_codes();
     }
     boundary_recordings();

@@ -7,8 +7,9 @@
  * other bytes in and around the buffers.
  *
  * usage: play FILE..
- * A case fails if the answer is another one, the form is not known, or the line cannot be read
- * whole. A file that cannot be read, or ends within a line, or has no case, is a failed case too.
+ * A case fails if the answer is another one, the form is not known, a number is out of range, or
+ * the line cannot be read whole. The last line may end without a line feed. A file that cannot be
+ * read, or has no case, is a failed case too.
  * Standard error names the first 20 that fail. The last line of standard output is
  * 'N passed, M failed'. Status 0: some passed, and none failed.
  */
@@ -81,6 +82,15 @@ static void say(struct text *t, const char *format, ...)
     t->length += (size_t)n;
 }
 
+/* A text in quotes; what is not a printable character is shown by its number. */
+static void say_quoted(struct text *t, const char *quoted)
+{
+    say(t, "'");
+    for (; *quoted; quoted++)
+        say(t, *quoted >= ' ' && *quoted <= '~' ? "%c" : "\\x%02x", (unsigned char)*quoted);
+    say(t, "'");
+}
+
 /* Bits or symbols, a digit a byte; none at all are a minus. */
 static void say_digits(struct text *t, const uint8_t *bytes, size_t n)
 {
@@ -97,9 +107,19 @@ static void say_digits(struct text *t, const uint8_t *bytes, size_t n)
 /* A line, whose inputs are taken one after the other. */
 struct line {
     char *next;         /* the rest of the line, or NULL at its end */
-    int bad;            /* 1 once an input could not be read */
-    const char *answer; /* the file's answer, or NULL if the line cannot be read whole */
+    const char *fault;  /* why it cannot be played, or NULL */
+    const char *answer; /* the file's answer, or NULL if the line cannot be played */
 };
+
+static const char not_whole[] = "the line cannot be read whole";
+static const char out_of_range[] = "a number is out of range";
+
+/* The first fault of a line is the one that is named. */
+static void find_fault(struct line *l, const char *fault)
+{
+    if (!l->fault)
+        l->fault = fault;
+}
 
 /* The next word; an empty one if there is none. */
 static const char *word(struct line *l)
@@ -121,11 +141,11 @@ static uint64_t digits_of(struct line *l, const char *w, uint64_t most)
 {
     uint64_t n = 0;
 
-    if (*w == 0 || (w[0] == '0' && w[1] != 0))
-        l->bad = 1;
-    for (; *w && !l->bad; w++) {
-        if (*w < '0' || *w > '9' || n > (most - (uint64_t)(*w - '0')) / 10)
-            l->bad = 1;
+    if (*w == 0 || (w[0] == '0' && w[1] != 0) || w[strspn(w, "0123456789")] != 0)
+        find_fault(l, not_whole);
+    for (; *w && !l->fault; w++) {
+        if (n > (most - (uint64_t)(*w - '0')) / 10)
+            find_fault(l, out_of_range);
         else
             n = n * 10 + (uint64_t)(*w - '0');
     }
@@ -146,7 +166,7 @@ static int32_t signed_number(struct line *l)
         return (int32_t)digits_of(l, w, INT32_MAX);
     n = (int64_t)digits_of(l, w + 1, (uint64_t)INT32_MAX + 1);
     if (n == 0)
-        l->bad = 1;
+        find_fault(l, not_whole);
     return (int32_t)-n;
 }
 
@@ -169,12 +189,12 @@ static struct bytes symbols(struct line *l)
 
     b.at = room_for(strlen(w));
     if (*w == 0)
-        l->bad = 1;
+        find_fault(l, not_whole);
     if (strcmp(w, "-") == 0)
         return b;
     for (; *w; w++) {
         if (*w < '0' || *w > '9')
-            l->bad = 1;
+            find_fault(l, not_whole);
         b.at[b.length++] = (uint8_t)(*w - '0');
     }
     return b;
@@ -196,14 +216,14 @@ static struct bytes hex(struct line *l)
 
     b.at = room_for(strlen(w));
     if (*w == 0)
-        l->bad = 1;
+        find_fault(l, not_whole);
     if (strcmp(w, "-") == 0)
         return b;
     for (; *w; w += 2) {
         int high = hex_digit(w[0]), low = hex_digit(w[1]);
 
         if (high < 0 || low < 0) {
-            l->bad = 1;
+            find_fault(l, not_whole);
             break;
         }
         b.at[b.length++] = (uint8_t)(high * 16 + low);
@@ -214,9 +234,11 @@ static struct bytes hex(struct line *l)
 /* Ends the inputs: whether all could be read and an answer follows. */
 static int inputs_end(struct line *l)
 {
-    if (strcmp(word(l), "=") == 0 && !l->bad && l->next && *l->next)
+    if (strcmp(word(l), "=") != 0 || !l->next || !*l->next)
+        find_fault(l, not_whole);
+    if (!l->fault)
         l->answer = l->next;
-    return l->answer != NULL;
+    return !l->fault;
 }
 
 /* ---- buffers between guard bytes */
@@ -487,7 +509,7 @@ static int passes(const char *text, struct text *why)
     size_t length = strlen(text);
     char *copy = room_for(length + 1);
     const struct form *form = NULL;
-    struct line l = {NULL, 0, NULL};
+    struct line l = {NULL, NULL, NULL};
     const char *name;
     size_t i;
     int ok;
@@ -503,12 +525,17 @@ static int passes(const char *text, struct text *why)
     if (form)
         form->play(&l, &got);
     ok = form && l.answer && strcmp(got.at, l.answer) == 0;
-    if (!form)
-        say(why, "no form has the name '%s'", name);
-    else if (!l.answer)
-        say(why, "the line cannot be read whole");
-    else if (!ok)
-        say(why, "got %s; the file has %s", got.at, l.answer);
+    if (!form) {
+        say(why, "no form has the name ");
+        say_quoted(why, name);
+    } else if (!l.answer) {
+        say(why, "%s", l.fault);
+    } else if (!ok) {
+        say(why, "got ");
+        say_quoted(why, got.at);
+        say(why, "; the file has ");
+        say_quoted(why, l.answer);
+    }
     free(copy);
     return ok;
 }
@@ -521,22 +548,20 @@ static void play_file(const char *path)
     size_t size = 0;
     ssize_t length = 0;
     unsigned long at = 0, cases = 0;
-    int whole = 1;
 
     if (!file) {
         if (fails())
             fprintf(stderr, "%s: cannot be read: %s\n", path, strerror(errno));
         return;
     }
-    while (whole && (length = getline(&text, &size, file)) >= 0) {
+    while ((length = getline(&text, &size, file)) >= 0) {
         at++;
-        whole = length > 0 && text[length - 1] == '\n';
-        if (whole)
+        if (length > 0 && text[length - 1] == '\n')
             text[--length] = 0;
-        if (!whole || strlen(text) != (size_t)length) {
+        if (strlen(text) != (size_t)length) {
             cases++;
             if (fails())
-                fprintf(stderr, "%s:%lu: the line cannot be read whole\n", path, at);
+                fprintf(stderr, "%s:%lu: %s\n", path, at, not_whole);
         } else if (text[0] != '#') {
             int ok = 1;
 
