@@ -1,12 +1,12 @@
 -- Every statement of specs with its proof: where a proof is missing, this module is not proved.
 -- Assumes nothing.
-use Rattle.amplitude_rules.specs.Theorems.{ReadExactly, SymbolsApart, FieldsOfDate, FlagSeconds, AcceptedLengths, UT1Limits, LayoutSeconds}
+use Rattle.amplitude_rules.specs.Theorems.{ReadExactly, SymbolsApart, FieldsOfDate, DigitSeconds, FlagSeconds, AcceptedLengths, UT1Limits, LayoutSeconds}
 use Rattle.amplitude_rules.specs.Theorems.{SentReads, WarnedMonth, BothCodes, Table10, OneSymbolMistaken, LeapMinutes, AmplitudeReadOrder}
 use Rattle.amplitude_rules.specs.Theorems.{AmplitudeReadAccepted, AmplitudeReadRefused, AmplitudeReadAnswers, AmplitudeReadFacts}
 use Rattle.amplitude_rules.specs.Theorems.{AmplitudeWriteOrder, AmplitudeWriteAccepted, AmplitudeWriteRefused, AmplitudeWriteAnswers}
 use Rattle.amplitude_rules.specs.Theorems.{AmplitudeWriteFacts, AmplitudeWriteDone, AmplitudeWriteUndone}
 use Rattle.amplitude_rules.proofs.Exact.{read-exactly, symbols-apart, accepted-lengths}
-use Rattle.amplitude_rules.proofs.Dates.{fields-of-date, flag-seconds}
+use Rattle.amplitude_rules.proofs.Dates.{fields-of-date, digit-seconds, flag-seconds}
 use Rattle.amplitude_rules.proofs.Facts.{ut1-limits}
 use Rattle.amplitude_rules.proofs.Seconds.{layout-seconds}
 use Rattle.amplitude_rules.proofs.Sent.{sent-reads, warned-month, both-codes}
@@ -22,6 +22,9 @@ symbols-apart′ = symbols-apart
 
 fields-of-date′ : FieldsOfDate
 fields-of-date′ = fields-of-date
+
+digit-seconds′ : DigitSeconds
+digit-seconds′ = digit-seconds
 
 flag-seconds′ : FlagSeconds
 flag-seconds′ = flag-seconds

@@ -8,11 +8,12 @@ use mathlib.Core.Path.{_≡_}
 use lib.Dec.{leb, eqb}
 use lib.IntN.{ℤ, pos, negsuc}
 use lib.ListN.{length, take, drop, getD, set}
-use Rattle.bits.specs.Bits.{pick}
+use Rattle.bits.specs.Bits.{pick, bits}
 use Rattle.bits.specs.Numbers.{found, refused as refusedWriting}
 use Rattle.questions.specs.Questions.{AllYes, FirstNo, numbersOf, oneOf}
 use Rattle.gregorian.specs.Gregorian.{firstYear, leapYear, monthsOf, before}
 use Rattle.calendar.specs.Calendar.{minuteCount, dateAt, monthIndex, lastOfMonth}
+use Rattle.calendar.specs.declared.Date.{Date}
 use Rattle.plan.specs.Plan.{legalPlan, lengthAt}
 use Rattle.plan.specs.declared.Plan.{Plan}
 use Rattle.format.specs.Frame.{sentBy, frame}
@@ -37,15 +38,36 @@ ReadExactly = (s : List ℕ) (r : Values) → readAmplitude s ≡ accepted r ↔
 abbrev pub SymbolsApart : Type 0
 SymbolsApart = (q r : Values) → legalValues q ≡ true → legalValues r ≡ true → q ≢ r → symbols q ≢ symbols r
 
--- the fields are those of the minute's date: its minute, its hour, its day of the year from 1, and its year from 2000
+-- the day of the year of a date, counted from 1
+abbrev pub dayOfYear : Date → ℕ
+dayOfYear d = before (monthsOf (d .year)) (d .month - 1) + d .day
+
+-- the fields are those of the minute's date: its minute, its hour, its day of the year, and its year from 2000
 pub record DateFields (r : Values) : Type 0 where
   pub minute : fieldsOf r .minute ≡ dateAt (r .minute) .minute
   pub hour : fieldsOf r .hour ≡ dateAt (r .minute) .hour
-  pub day : fieldsOf r .day ≡ before (monthsOf (dateAt (r .minute) .year)) (dateAt (r .minute) .month - 1) + dateAt (r .minute) .day
+  pub day : fieldsOf r .day ≡ dayOfYear (dateAt (r .minute))
   pub year : firstYear + fieldsOf r .year ≡ dateAt (r .minute) .year
 
 abbrev pub FieldsOfDate : Type 0
 FieldsOfDate = (r : Values) → r .minute < minuteCount → DateFields r
+
+-- the n symbols s from second k on are the bits of x, the highest first
+abbrev pub Shows : List ℕ → ℕ → ℕ → ℕ → Type 0
+Shows s k n x = take n (drop k s) ≡ bits n x
+
+-- the symbols s of values r with the date d, second by second: decimal digits, and the UT1 sign
+pub record DigitsShown (s : List ℕ) (r : Values) (d : Date) : Type 0 where
+  pub minute : Shows s 1 3 (d .minute / 10) × Shows s 5 4 (d .minute % 10)
+  pub hour : Shows s 12 2 (d .hour / 10) × Shows s 15 4 (d .hour % 10)
+  pub day : Shows s 22 2 (dayOfYear d / 100) × Shows s 25 4 (dayOfYear d / 10 % 10) × Shows s 30 4 (dayOfYear d % 10)
+  pub plus : r .sign ≡ pos 1 → Shows s 36 3 0b101
+  pub minus : r .sign ≡ negsuc 0 → Shows s 36 3 0b010
+  pub tenths : Shows s 40 4 (r .tenths)
+  pub year : Shows s 45 4 (d .year % 100 / 10) × Shows s 50 4 (d .year % 10)
+
+abbrev pub DigitSeconds : Type 0
+DigitSeconds = (r : Values) → legalValues r ≡ true → DigitsShown (symbols r) r (dateAt (r .minute))
 
 -- the last four seconds of the layout: the leap-year mark at 55, the warning at 56, dst_on[1] at 57 and dst_on[0] at 58
 abbrev pub FlagSeconds : Type 0
