@@ -12,7 +12,7 @@ use borrow.Author.Tests.{le-leb, eqb-true}
 use Rattle.bits.specs.Bits.{number, isBit, all, Binary}
 use Rattle.bits.proofs.Parts.{binary-append, drop-take}
 use Rattle.bits.proofs.Tests.{head-true, tail-true, binary}
-use Rattle.symbols.specs.Symbols.{Part, mark, blank, high, fits, numbers}
+use Rattle.symbols.specs.Symbols.{Part, marker, mark, blank, high, fits, numbers}
 
 -- the number of symbols of parts
 abbrev pub width : List Part → ℕ
@@ -46,7 +46,7 @@ pub fits-append : (ps qs : List Part) (s : List ℕ) → width ps ≤ length s �
 unfolding fits
 fits-append [] qs s h = refl
 fits-append (mark ∷ ps) qs [] h = absurd (omega arith)
-fits-append (mark ∷ ps) qs (x ∷ s) h = before (eqb x 2) _ _ _ (fits-append ps qs s (omega arith))
+fits-append (mark ∷ ps) qs (x ∷ s) h = before (eqb x marker) _ _ _ (fits-append ps qs s (omega arith))
 fits-append (blank ∷ ps) qs [] h = absurd (omega arith)
 fits-append (blank ∷ ps) qs (x ∷ s) h =
     rw (one-long s, one-long (take (width ps) s)) (before (eqb x 0) _ _ _ (fits-append ps qs s (omega arith)))
