@@ -76,7 +76,10 @@ lengths last warning n h =
     outside : ((k : ℕ) → (minFrame ≤ k) × (k ≤ maxFrame) → n ≡ k → ⊥) → ⊥
     outside far =
         never (last && eqb warning 1)
-        (rw (ne-eqb n minFrame (far minFrame (omega arith, omega arith)), ne-eqb n usualFrame (far usualFrame (omega arith, omega arith)), ne-eqb n maxFrame (far maxFrame (omega arith, omega arith))) at h)
+        (rw (not-at minFrame (omega arith, omega arith), not-at usualFrame (omega arith, omega arith), not-at maxFrame (omega arith, omega arith)) at h)
+      where
+        not-at : (k : ℕ) → (minFrame ≤ k) × (k ≤ maxFrame) → eqb n k ≡ false
+        not-at k i = ne-eqb n k (far k i)
 
 -- ---- the UT1 sign
 

@@ -16,12 +16,12 @@ use Rattle.symbols.proofs.Laws.{filled-reads}
 use Rattle.gregorian.specs.Gregorian.{firstYear, monthsOf, yearLength, yearLengths, before, yearOfDay}
 use Rattle.gregorian.proofs.Months.{Placed, placed, months-short, year-index, year-rest, year-low, year-rest-is}
 use Rattle.calendar.specs.Calendar.{lastOfMonth}
-use Rattle.plan.specs.Plan.{minFrame, maxFrame}
+use Rattle.plan.specs.Plan.{minFrame}
 use Rattle.amplitude_rules.specs.declared.Values.{Values}
 use Rattle.amplitude_rules.specs.Amplitude.{table1, digits, leapMark, fieldsOf, symbols}
 use Rattle.amplitude_rules.specs.Reading.{isMark, layoutFits, numbersIn, valuesOf, decimalDigits, realFields, numbersFit, fieldsFit, readQuestions, accepted, readAmplitude}
 use Rattle.amplitude_rules.proofs.Digits.{Small, digits-within, fields-digits}
-use Rattle.amplitude_rules.proofs.Facts.{Legal, lengths, sign-back, sign-real, sign-small, mark-small}
+use Rattle.amplitude_rules.proofs.Facts.{Legal, lengths, sign-back, sign-real, sign-small, mark-small, layout-fits}
 
 all-marks : (n : ℕ) → all isMark (replicate n marker) ≡ true
 unfolding all
@@ -66,11 +66,16 @@ module _ (r : Values) (l : Legal r) where
       omega (arith, length-append row tail, length-row (digits (fieldsOf r)), length-replicate {A = ℕ} (r .seconds - minFrame) marker)
 
   fits-symbols : layoutFits (symbols r) ≡ true
-  unfolding symbols layoutFits
+  unfolding symbols
   fits-symbols =
       let n = lengths (lastOfMonth (r .minute)) (r .warning) (r .seconds) (l .length) in
-      rw (length-symbols, front, drop-at row tail minFrame (length-row (digits (fieldsOf r))))
-      (and-true (and-true (and-true (le-leb minFrame (r .seconds) (n .0)) (le-leb (r .seconds) maxFrame (n .1))) (filled-reads table1 (digits (fieldsOf r)) (digits-within (fieldsOf r) small) .0)) (all-marks (r .seconds - minFrame)))
+      layout-fits (row ++ tail)
+      (record {
+        low = omega (arith, length-symbols, n .0);
+        high = omega (arith, length-symbols, n .1);
+        row = rw front (filled-reads table1 (digits (fieldsOf r)) (digits-within (fieldsOf r) small) .0);
+        rest = rw (drop-at row tail minFrame (length-row (digits (fieldsOf r)))) (all-marks (r .seconds - minFrame));
+      })
 
   numbers-back : numbersIn (symbols r) ≡ digits (fieldsOf r)
   unfolding symbols numbersIn

@@ -140,7 +140,7 @@ BothCodes =
 
 -- ---- worked examples
 
--- source document 002, Table 10: 2012-07-04 17:30, UT1 plus 0.4 s
+-- source document 002, Table 10: 2012-07-04 17:30, UT1 plus 0.4 s (seconds 50 to 52 are cut off in our copy, and follow from the date)
 abbrev pub Table10 : Type 0
 Table10 =
     symbols (valuesAt (rows10And37 0 (pos 0) 0) 6_578_970 (pos 1) 4)

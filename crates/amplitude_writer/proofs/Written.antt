@@ -90,6 +90,7 @@ symbols-are r x l m out h ex el em =
     let row = fill table1 (digits x) in
     let n = length-row (digits x) in
     let e : r .seconds ≡ minFrame + (r .seconds - minFrame) = omega arith in
+    let k = r .seconds - minFrame in
     let d : drop (r .seconds) (row ++ drop minFrame out) ≡ drop (r .seconds) out =
-    rw e (sym (drop-drop (r .seconds - minFrame) minFrame (row ++ drop minFrame out)) ∙ rw (drop-at row (drop minFrame out) minFrame n) (drop-drop (r .seconds - minFrame) minFrame out)) in
+    rw e (sym (drop-drop k minFrame (row ++ drop minFrame out)) ∙ rw (drop-at row (drop minFrame out) minFrame n) (drop-drop k minFrame out)) in
     em ∙ rw (el, take-at row (drop minFrame out) minFrame n, d, ex)

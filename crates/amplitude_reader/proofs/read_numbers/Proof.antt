@@ -30,10 +30,12 @@ returns-2 c =
     (t .fields-from .ensures) (sym (c .before .has-real-fields .ensures) ∙ not-true _ (c .if2 .taken))
 
 values-of-requires : tie.Need-values-of-requires
-values-of-requires c κs = (
-  rw (c .before .before .fields-from .ensures) (year-small (rowNumbers (c .before .before .before .before .before .args .d)) (sym (c .before .before .before .before .has-decimal-digits .ensures) ∙ not-false _ (c .before .before .before .if1 .left))),
-  sym (c .before .has-real-fields .ensures) ∙ not-false _ (c .if2 .left),
-)
+values-of-requires c κs =
+    let e = c .before .before .before in
+    let decimal = sym (e .before .has-decimal-digits .ensures) ∙ not-false _ (e .if1 .left) in (
+      rw (c .before .before .fields-from .ensures) (year-small (rowNumbers (e .before .before .args .d)) decimal),
+      sym (c .before .has-real-fields .ensures) ∙ not-false _ (c .if2 .left),
+    )
 
 length-fits-requires : tie.Need-length-fits-requires
 length-fits-requires c κs = search needs

@@ -40,7 +40,8 @@ returns-2 : tie.Need-returns-2
 returns-2 c =
     let g = c .before .before .before in
     let z = g .before .before .before .before .before in
-    mark-and-bits (z .args .s .now) (z .args .from) (z .args .to) (z .pre .0) _ (eq-eqb _ 2 (g .before .before .if1 .left)) (sym (g .gather .ensures) ∙ c .before .gathered .given .1)
+    mark-and-bits (z .args .s .now) (z .args .from) (z .args .to) (z .pre .0) _ (eq-eqb _ 2 (g .before .before .if1 .left))
+    (sym (g .gather .ensures) ∙ c .before .gathered .given .1)
 
 returns-3 : tie.Need-returns-3
 returns-3 c =

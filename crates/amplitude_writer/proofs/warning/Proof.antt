@@ -27,7 +27,8 @@ returns-2 : tie.Need-returns-2
 unfolding warningAt
 returns-2 c =
     let s = c .before .before .before in
-    let not : leapNumber (leapAt (s .args .plan) (s .args .minute)) ≡ 0 → ⊥ = λ e. c .if1 .left (omega (arith, c .before .before .leap .ensures, c .before .leap-number .ensures, e)) in
+    let not : leapNumber (leapAt (s .args .plan) (s .args .minute)) ≡ 0 → ⊥ =
+    λ e. c .if1 .left (omega (arith, c .before .before .leap .ensures, c .before .leap-number .ensures, e)) in
     rw (ne-eqb _ 0 not)
 
 pub warning-spec : {M : Type 1} → statement M

@@ -72,9 +72,10 @@ returns-4 c =
 
 put-requires : tie.Need-put-requires
 put-requires c κs =
-    let s = c .before .before .before .before .before .before .before .before .before .before in (
+    let s = c .before .before .before .before .before .before .before .before .before .before in
+    let early = c .before .before .before .before .before .before .if2 .left in (
       subst (λ (r : Values). legalValues r ≡ true) (sym (values (c .before .before .before)))
-          (sent-legal (s .args .plan) (s .args .minute) (s .args .sign) (s .args .tenths) (c .before .before .before .before .before .before .if2 .left) (legal-ut1 (c .before .before .before .before))),
+          (sent-legal (s .args .plan) (s .args .minute) (s .args .sign) (s .args .tenths) early (legal-ut1 (c .before .before .before .before))),
       c .before .if4 .left,
     )
 
