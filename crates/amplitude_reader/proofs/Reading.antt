@@ -115,6 +115,6 @@ module _ (s : List ℕ) (r : LayoutAnswer) (e : layoutAnswer r ≡ layoutReading
     pub short-enough : length s ≤ maxFrame
     short-enough = layout s (both .0) .high
 
-    pub by-fields : numbersReading (rowNumbers d) (length s) ≡ readAmplitude s
+    pub by-numbers : numbersReading (rowNumbers d) (length s) ≡ readAmplitude s
     unfolding readAmplitude readQuestions asked numbersReading numbersQuestions
-    by-fields = rw (both .0, both .1)
+    by-numbers = rw (both .0, both .1)

@@ -13,7 +13,7 @@ answerOf (Read r) = accepted r
 answerOf BadSymbols = refused 17
 answerOf BadValue = refused 18
 
--- a step of the code: question 18 alone, of n symbols that have the layout and in it the numbers v
+-- a step of the code: question 18 alone, of n symbols that have the layout and the numbers v in it
 unfoldable pub numbersQuestions : List ℕ → ℕ → List Question
 numbersQuestions v n = (18, numbersFit v n) ∷ []
 

@@ -1,12 +1,12 @@
--- The layout by lines, each a marker and bits: which numbers of lines have it, and the numbers in them.
+-- The layout by lines, each a marker and bits: which numbers of lines have it, the numbers in them, and the row of numbers as lines.
 -- Assumes nothing.
 use Prim.Native.Nat.{ℕ, zero, suc, _+_, _-_, _*_, _/_, _%_, _^_, _≤_, _<_}
-use mathlib.Core.Bool.{Bool, true, false, not, _&&_, and-false, false≢true}
+use mathlib.Core.Bool.{Bool, true, false, _&&_, and-false, false≢true}
 use mathlib.Core.List.{List, [], _∷_, _++_}
-use mathlib.Core.Path.{_≡_, refl, sym, ap, ap₂, _∙_}
+use mathlib.Core.Path.{_≡_, refl, sym, ap, _∙_}
 use native.Mathlib.Nat.{add-zero}
 use native.Mathlib.Omega.{arith}
-use lib.Dec.{T, eqb, eqb→eq}
+use lib.Dec.{T, eqb}
 use lib.ListN.{length, take, drop, getD, length-drop, drop-of-length-le}
 use lib.Seq.{getD-take, getD-drop, length-take-le, drop-drop}
 use borrow.Author.Tests.{eq-eqb, ne-eqb, eqb-true}
@@ -16,7 +16,9 @@ use Rattle.bits.specs.declared.Gathered.the-variants.{Word, NotBits}
 use Rattle.bits.proofs.Bits.{number-lt}
 use Rattle.bits.proofs.Gathering.{gathered-word, gathered-none}
 use Rattle.bits.proofs.Parts.{bits-take, part-take, length-part, drop-take}
-use Rattle.bits.proofs.Tests.{and-left, and-right, upto, upto-at, binary, all-binary}
+use Rattle.bits.proofs.Tests.{and-left, and-right, upto, upto-at, binary, all-binary, sameTest, same-test}
+use Rattle.timeword.specs.TimeWord.{same}
+use Rattle.timeword.proofs.Invert.{same→eq}
 use Rattle.plan.specs.Plan.{minFrame}
 use Rattle.symbols.specs.Symbols.{Part, mark, blank, high, fill, fits, numbers, Within}
 use Rattle.symbols.proofs.Laws.{read-fills}
@@ -26,7 +28,7 @@ use Rattle.amplitude_rules.specs.Reading.{isMark, numbersIn}
 use Rattle.amplitude_rules.specs.declared.Fields.{Fields}
 use Rattle.amplitude_rules.proofs.Digits.{next}
 use Rattle.amplitude_row.specs.declared.Lines.{Lines}
-use Rattle.amplitude_row.specs.Row.{linesOf, lineSymbols, noLine, lineNumber, linesIn, blanksOf, lineNumbers}
+use Rattle.amplitude_row.specs.Row.{linesOf, lineSymbols, noLine, lineNumber, linesIn, blanksOf, numbersOfLines}
 
 -- ---- the number of a line, of what its marker's place and the gathered bits show
 
@@ -57,33 +59,9 @@ module _ (s : List ℕ) (a b : ℕ) (h : a < b) where
 
 -- ---- a line by its number, tested at every number
 
-same : Bool → Bool → Bool
-same true b = b
-same false b = not b
-
-same-is : (a b : Bool) → T (same a b) → a ≡ b
-unfolding same
-same-is true true t = refl
-same-is true false t = absurd t
-same-is false true t = absurd t
-same-is false false t = refl
-
-equal : List ℕ → List ℕ → Bool
-equal [] [] = true
-equal [] (y ∷ l) = false
-equal (x ∷ k) [] = false
-equal (x ∷ k) (y ∷ l) = eqb x y && equal k l
-
-equal-is : (k l : List ℕ) → T (equal k l) → k ≡ l
-unfolding equal
-equal-is [] [] t = refl
-equal-is [] (y ∷ l) t = absurd t
-equal-is (x ∷ k) [] t = absurd t
-equal-is (x ∷ k) (y ∷ l) t = ap₂ _∷_ (eqb→eq x y (and-left (eqb x y) (equal k l) t)) (equal-is k l (and-right (eqb x y) (equal k l) t))
-
 -- the bits of n fit the parts exactly when its blanks are 0, and have these numbers
 right : List Part → (ℕ → ℕ) → (ℕ → List ℕ) → ℕ → Bool
-right ps f v n = let w = bits (width ps) n in same (fits ps w) (eqb (f n) 0) && equal (numbers ps w) (v n)
+right ps f v n = let w = bits (width ps) n in sameTest (fits ps w) (eqb (f n) 0) && same (numbers ps w) (v n)
 
 -- symbols that fit parts exactly when blanks are 0, and then have these numbers
 abbrev Reads : List Part → List ℕ → ℕ → List ℕ → Type 0
@@ -93,9 +71,9 @@ right-reads : (ps : List Part) (f : ℕ → ℕ) (v : ℕ → List ℕ) (n : ℕ
 unfolding right
 right-reads ps f v n t =
     let w = bits (width ps) n in
-    let a = same (fits ps w) (eqb (f n) 0) in
-    let b = equal (numbers ps w) (v n) in
-    (same-is (fits ps w) (eqb (f n) 0) (and-left a b t), λ z. equal-is (numbers ps w) (v n) (and-right a b t))
+    let a = sameTest (fits ps w) (eqb (f n) 0) in
+    let b = same (numbers ps w) (v n) in
+    (same-test (fits ps w) (eqb (f n) 0) (and-left a b t), λ z. same→eq (numbers ps w) (v n) (and-right a b t))
 
 -- a line: its parts after the marker, and of its number the bits that are always 0, and the numbers in it
 record Line : Type 0 where
@@ -164,33 +142,33 @@ module _ (s : List ℕ) (h : minFrame ≤ length s) where
 
 -- ---- the six lines; the hour and the day of the year are alike
 
-abbrev line-of : (ps : List Part) (f : ℕ → ℕ) (v : ℕ → List ℕ) → Plain ps → 2 ^ width ps ≤ 512 → eqb (f noLine) 0 ≡ false → T (upto (right ps f v) 512) → Line
-line-of ps f v p s n t = record { parts = ps; blanks = f; values = v; plain = p; small = s; none = n; tested = t }
+abbrev a-line : (ps : List Part) (f : ℕ → ℕ) (v : ℕ → List ℕ) → Plain ps → 2 ^ width ps ≤ 512 → eqb (f noLine) 0 ≡ false → T (upto (right ps f v) 512) → Line
+a-line ps f v p s n t = record { parts = ps; blanks = f; values = v; plain = p; small = s; none = n; tested = t }
 
 abbrev minute-line : Line
 minute-line =
-    line-of (high 3 ∷ blank ∷ high 4 ∷ []) (λ n. n / 16 % 2) (λ n. n / 32 % 8 ∷ n % 16 ∷ []) tt (omega arith) refl
-    (unfold right same equal fits numbers number bits bit all isBit in tt)
+    a-line (high 3 ∷ blank ∷ high 4 ∷ []) (λ n. n / 16 % 2) (λ n. n / 32 % 8 ∷ n % 16 ∷ []) tt (omega arith) refl
+    (unfold right sameTest same fits numbers number bits bit all isBit in tt)
 
 abbrev hour-line : Line
 hour-line =
-    line-of (blank ∷ blank ∷ high 2 ∷ blank ∷ high 4 ∷ []) (λ n. n / 128 % 4 + n / 16 % 2) (λ n. n / 32 % 4 ∷ n % 16 ∷ []) tt (omega arith) refl
-    (unfold right same equal fits numbers number bits bit all isBit in tt)
+    a-line (blank ∷ blank ∷ high 2 ∷ blank ∷ high 4 ∷ []) (λ n. n / 128 % 4 + n / 16 % 2) (λ n. n / 32 % 4 ∷ n % 16 ∷ []) tt (omega arith) refl
+    (unfold right sameTest same fits numbers number bits bit all isBit in tt)
 
 abbrev sign-line : Line
 sign-line =
-    line-of (high 4 ∷ blank ∷ blank ∷ high 3 ∷ []) (λ n. n / 8 % 4) (λ n. n / 32 % 16 ∷ n % 8 ∷ []) tt (omega arith) refl
-    (unfold right same equal fits numbers number bits bit all isBit in tt)
+    a-line (high 4 ∷ blank ∷ blank ∷ high 3 ∷ []) (λ n. n / 8 % 4) (λ n. n / 32 % 16 ∷ n % 8 ∷ []) tt (omega arith) refl
+    (unfold right sameTest same fits numbers number bits bit all isBit in tt)
 
 abbrev tenths-line : Line
 tenths-line =
-    line-of (high 4 ∷ blank ∷ high 4 ∷ []) (λ n. n / 16 % 2) (λ n. n / 32 % 16 ∷ n % 16 ∷ []) tt (omega arith) refl
-    (unfold right same equal fits numbers number bits bit all isBit in tt)
+    a-line (high 4 ∷ blank ∷ high 4 ∷ []) (λ n. n / 16 % 2) (λ n. n / 32 % 16 ∷ n % 16 ∷ []) tt (omega arith) refl
+    (unfold right sameTest same fits numbers number bits bit all isBit in tt)
 
 abbrev flags-line : Line
 flags-line =
-    line-of (high 4 ∷ blank ∷ high 1 ∷ high 1 ∷ high 2 ∷ []) (λ n. n / 16 % 2) (λ n. n / 32 % 16 ∷ n / 8 % 2 ∷ n / 4 % 2 ∷ (n / 2 % 2 * 2 + n % 2) ∷ []) tt (omega arith) refl
-    (unfold right same equal fits numbers number bits bit all isBit in tt)
+    a-line (high 4 ∷ blank ∷ high 1 ∷ high 1 ∷ high 2 ∷ []) (λ n. n / 16 % 2) (λ n. n / 32 % 16 ∷ n / 8 % 2 ∷ n / 4 % 2 ∷ (n / 2 % 2 * 2 + n % 2) ∷ []) tt (omega arith) refl
+    (unfold right sameTest same fits numbers number bits bit all isBit in tt)
 
 -- ---- the row of numbers, by lines
 
@@ -252,7 +230,7 @@ module _ (s : List ℕ) (h : minFrame ≤ length s) where
   unfolding From fits numbers
   row-end = (ap (λ (t : List ℕ). eqb (length t) 0) (drop-of-length-le (take minFrame s) {i = minFrame} (omega (arith, length-take-le minFrame s h))), λ z. refl)
 
-  six-lines : From s h 0 table1 (blanksOf (linesIn s)) (lineNumbers (linesIn s))
+  six-lines : From s h 0 table1 (blanksOf (linesIn s)) (numbersOfLines (linesIn s))
   unfolding table1 linesIn
   six-lines =
       rw (sum _ _ _ _ _ _) at
@@ -265,13 +243,13 @@ module _ (s : List ℕ) (h : minFrame ≤ length s) where
 
   -- the row by its lines
   module _ (l : Lines) (q : l ≡ linesIn s) where
-    row-reads : Reads table1 (take minFrame s) (blanksOf l) (lineNumbers l)
+    row-reads : Reads table1 (take minFrame s) (blanksOf l) (numbersOfLines l)
     unfolding From
     row-reads = rw q six-lines
 
     pub row-fits : fits table1 (take minFrame s) ≡ eqb (blanksOf l) 0
     row-fits = row-reads .0
 
-    pub row-numbers : eqb (blanksOf l) 0 ≡ true → numbersIn s ≡ lineNumbers l
+    pub row-numbers : eqb (blanksOf l) 0 ≡ true → numbersIn s ≡ numbersOfLines l
     unfolding numbersIn
     row-numbers t = row-reads .1 (eqb-true (blanksOf l) 0 t)

@@ -107,14 +107,6 @@ unfolding signBits
 sign-small (pos n) = omega arith
 sign-small (negsuc n) = omega arith
 
-picked-below : {x y n : ℕ} (b : Bool) → x < n → y < n → pick b x y < n
-picked-below true h k = h
-picked-below false h k = k
-
-pub mark-small : (y : ℕ) → leapMark y < 2
-unfolding leapMark
-mark-small y = picked-below (leapYear y) (omega arith) (omega arith)
-
 pub sign-forth : (b : ℕ) → (eqb b plusBits || eqb b minusBits) ≡ true → signBits (signOf b) ≡ b
 unfolding signBits signOf
 sign-forth b h = go (eqb b plusBits) refl h
@@ -132,7 +124,18 @@ sign-legal b = go (eqb b plusBits)
     go true = refl
     go false = refl
 
--- fields that are real
+-- ---- the leap-year mark
+
+pub picked-below : {x y n : ℕ} (b : Bool) → x < n → y < n → pick b x y < n
+picked-below true h k = h
+picked-below false h k = k
+
+pub mark-small : (y : ℕ) → leapMark y < 2
+unfolding leapMark
+mark-small y = picked-below (leapYear y) (omega arith) (omega arith)
+
+-- ---- real fields
+
 pub record Real (x : Fields) : Type 0 where
   pub sign : (eqb (x .sign) plusBits || eqb (x .sign) minusBits) ≡ true
   pub minute : x .minute < 60

@@ -26,7 +26,7 @@ use Rattle.sequence.proofs.ReadBack.{single-reads-back}
 use Rattle.amplitude_rules.specs.Amplitude.{legalSign, legalUT1, lengthFits, legalValues}
 use Rattle.amplitude_rules.specs.Writing.{warningAt, valuesAt}
 use Rattle.amplitude_rules.specs.Theorems.{SentReads, WarnedMonth, BothCodes}
-use Rattle.amplitude_rules.proofs.Facts.{Legal, legal-values}
+use Rattle.amplitude_rules.proofs.Facts.{Legal, legal-values, picked-below}
 use Rattle.amplitude_rules.proofs.ReadBack.{read-values}
 
 sent-length : (last : Bool) (l : LeapState) → lengthFits last (pick (eqb (leapNumber l) 0) 0 1) (pick last (leapLength l) usualFrame) ≡ true
@@ -37,8 +37,7 @@ sent-length true Positive = refl
 sent-length false l = refl
 
 flag-small : (b : Bool) → pick b 0 1 ≤ 1
-flag-small true = omega arith
-flag-small false = omega arith
+flag-small b = let h : pick b 0 1 < 2 = picked-below b (omega arith) (omega arith) in omega arith
 
 daylight-small : (d : DaylightState) → daylightNumber d ≤ 3
 daylight-small Standard = omega arith

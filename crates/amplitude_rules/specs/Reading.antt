@@ -91,6 +91,7 @@ numbersFit v n =
     decimalDigits v && realFields (fieldsFrom v)
     && lengthFits (lastOfMonth (valuesOf (fieldsFrom v) n .minute)) (valuesOf (fieldsFrom v) n .warning) n
 
+-- question 18 of symbols
 abbrev pub fieldsFit : List ℕ → Bool
 fieldsFit s = numbersFit (numbersIn s) (length s)
 

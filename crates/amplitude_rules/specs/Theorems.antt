@@ -52,7 +52,7 @@ pub record DateFields (r : Values) : Type 0 where
 abbrev pub FieldsOfDate : Type 0
 FieldsOfDate = (r : Values) → r .minute < minuteCount → DateFields r
 
--- the n symbols s from second k on are the bits of x, the highest first
+-- the n symbols of s from second k on are the bits of x, the highest first
 abbrev pub Shows : List ℕ → ℕ → ℕ → ℕ → Type 0
 Shows s k n x = take n (drop k s) ≡ bits n x
 

@@ -1,4 +1,4 @@
--- A row of parts after parts, and a row without markers as the bits of one number.
+-- Rows of parts after parts, and rows without markers, which are bits.
 -- Assumes nothing.
 use Prim.Native.Nat.{ℕ, suc, _+_, _≤_}
 use mathlib.Core.Bool.{Bool, true, _&&_, and-assoc}

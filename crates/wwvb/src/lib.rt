@@ -38,7 +38,7 @@ pub struct MinuteReply {
     pub minute: u32,
 }
 
-// The refusal or 0, and the number of bits or of symbols; refused, it is 0.
+// The refusal or 0, and the number of bits or of symbols; refused, that number is 0.
 #[repr(C)]
 pub struct WriteReply {
     pub refusal: usize,

@@ -2,7 +2,7 @@
 -- Assumes nothing.
 use mathlib.Core.Path.{_∙_}
 use native.Mathlib.Omega.{arith}
-use Rattle.amplitude_reader.proofs.Reading.{no-layout, short-enough, by-fields}
+use Rattle.amplitude_reader.proofs.Reading.{no-layout, short-enough, by-numbers}
 use borrow.Author.Needs.{needs}
 use Rattle.amplitude_reader.proofs.read_minute.Statement.{statement}
 use Rattle.amplitude_reader.proofs.read_minute.Tie as tie
@@ -28,7 +28,7 @@ returns : tie.Need-returns
 returns c =
     let a = c .before .before .before .before in
     c .read-numbers .ensures
-    ∙ by-fields (a .before .before .args .symbols .now) (a .read-layout .result) (a .read-layout .ensures) _ (c .before .before .answer .given .1)
+    ∙ by-numbers (a .before .before .args .symbols .now) (a .read-layout .result) (a .read-layout .ensures) _ (c .before .before .answer .given .1)
 
 returns-2 : tie.Need-returns-2
 returns-2 c =
