@@ -94,7 +94,7 @@ warned-month p t legal = go (in-month-or-not p t)
     sign = signed (p .«leap_sign») (p .«leap_month») (legal-leap p legal)
 
     go : (monthIndex t ≡ p .«leap_month») ⊎ (monthIndex t ≡ p .«leap_month» → ⊥)
-        → mark (leapAt p t) ≡ 1 ↔ ((p .«leap_sign» ≢ pos 0) × (monthIndex t ≡ p .«leap_month»))
+        → warningAt p t ≡ 1 ↔ ((p .«leap_sign» ≢ pos 0) × (monthIndex t ≡ p .«leap_month»))
     go (inl e) = rw (leap-in-month p t e) ((λ h. (sign .0 h, e)), (λ h. sign .1 (h .0)))
     go (inr n) = rw (leap-elsewhere p t n) ((λ h. absurd (omega arith)), (λ h. absurd (n (h .1))))
 
