@@ -89,9 +89,10 @@ pub fn day_word(plan: Plan, day: u32) -> u64
     requires { ⌜ (legalPlan plan ≡ true) × (day < dayCount) ⌝ }
     ensures { λ r. ⌜ r ≡ dayWord plan day ⌝ }
 {
-    let state = plan.state(day * 1440);
+    let minute = day * 1440;
+    let state = plan.state(minute);
     let daylight = state.daylight;
-    let next = codewords::next_word(plan.row_for(daylight)) as u64;
+    let next = codewords::next_word(plan.row_for(minute, daylight)) as u64;
     let state = codewords::state_word(state) as u64;
     layout::day_part(state, plan.notice as u64, next)
 }

@@ -1,0 +1,18 @@
+-- `plan::is_earlier` meets its contract.
+-- Assumes nothing.
+use Rattle.plan.specs.Plan.{isEarlier}
+use borrow.Author.Tests.{eq-eqb, ne-eqb}
+use Rattle.plan.proofs.Laws.{to-2006}
+use Rattle.plan.proofs.is_earlier.Statement.{statement}
+use Rattle.plan.proofs.is_earlier.Tie as tie
+
+returns : tie.Need-returns
+unfolding isEarlier
+returns c = rw (eq-eqb _ _ (c .if1 .taken)) (to-2006 (c .before .args .years))
+
+returns-2 : tie.Need-returns-2
+unfolding isEarlier
+returns-2 c = rw (ne-eqb _ _ (c .if1 .left))
+
+pub is-earlier-spec : {M : Type 1} → statement M
+is-earlier-spec = tie.close (tie.spec returns returns-2)
