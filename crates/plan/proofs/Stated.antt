@@ -1,10 +1,13 @@
 -- Every statement of specs with its proof: where a proof is missing, this module is not proved.
 -- Assumes nothing.
 use Rattle.plan.specs.Theorems.{FirstSundays, ChangesOnSundays, WeeksOfRows, FourthSunday, SpringBeforeAutumn, ChangesInYear, DaylightFollows, RowsFit, WordsReadBack, ThreeLengths, OneOtherLength, OtherLengthInLeapMinute, LeapMinuteExists, LeapMinuteLength, LeapStateOfMonth, SameInDay, SixtyInDay}
+use Rattle.plan.specs.Earlier.{LegalKinds, EarlierLaw, EarlierDates, EarlierStates, OwnRows, AsKind0From2007, RowSent, OwnRowsSent, FirstDay, StatesOfKind0}
 use Rattle.plan.proofs.Follows.{daylight-follows}
 use Rattle.plan.proofs.Changes.{first-sundays, changes-on-sundays, weeks-of-rows, fourth-sunday, spring-before-autumn, changes-in-year}
 use Rattle.plan.proofs.Rows.{rows-fit, words-read-back}
 use Rattle.plan.proofs.LeapMinute.{three-lengths, one-other-length, other-length-in-leap-minute, leap-minute-exists, leap-minute-length, leap-state-of-month}
+use Rattle.plan.proofs.Earlier.{legal-kinds, earlier-law, earlier-dates, own-rows, as-kind-0-from-2007, row-sent, own-rows-sent, states-of-kind-0}
+use Rattle.plan.proofs.EarlierStates.{earlier-states, first-day}
 use Rattle.plan.proofs.Days.{same-in-day, sixty-in-day}
 
 first-sundays′ : FirstSundays
@@ -57,3 +60,33 @@ same-in-day′ = same-in-day
 
 sixty-in-day′ : SixtyInDay
 sixty-in-day′ = sixty-in-day
+
+legal-kinds′ : LegalKinds
+legal-kinds′ = legal-kinds
+
+earlier-law′ : EarlierLaw
+earlier-law′ = earlier-law
+
+earlier-dates′ : EarlierDates
+earlier-dates′ = earlier-dates
+
+earlier-states′ : EarlierStates
+earlier-states′ = earlier-states
+
+own-rows′ : OwnRows
+own-rows′ = own-rows
+
+as-kind-0-from-2007′ : AsKind0From2007
+as-kind-0-from-2007′ = as-kind-0-from-2007
+
+row-sent′ : RowSent
+row-sent′ = row-sent
+
+own-rows-sent′ : OwnRowsSent
+own-rows-sent′ = own-rows-sent
+
+first-day′ : FirstDay
+first-day′ = first-day
+
+states-of-kind-0′ : StatesOfKind0
+states-of-kind-0′ = states-of-kind-0
