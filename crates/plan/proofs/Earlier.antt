@@ -138,17 +138,7 @@ module _ (p : Plan) (t y : ℕ) (c : hasChanges (p .kind) ≡ true) (e : yearOfD
 pub row-sent : RowSent
 row-sent p t y c e = (before-spring p t y c e, from-spring p t y c e, from-autumn p t y c e)
 
--- where the rows of the year are the plan's own, its days are those of the rows, and dst_on[1] picks one of them
-module _ (p : Plan) (t y : ℕ) (c : hasChanges (p .kind) ≡ true) (e : yearOfDay (t / 1440) .index ≡ y) (own : autumnRow p y ≡ p .autumn) where
-  own-days : springRow p y ≡ p .spring → daylightAt p t ≡ changing (springDay (p .spring) y) (autumnDay (p .autumn) y) (t / 1440)
-  unfolding daylightAt springDayOf autumnDayOf
-  own-days s = rw (c, e, s, own)
-
-  own-row : springRow p (springYear p y (t / 1440)) ≡ p .spring → rowAt p t ≡ nextRow (p .spring) (p .autumn) (daylightAt p t)
-  unfolding rowAt rowFor rowOn
-  own-row s = rw (c, e, own, s)
-
-changes-0 : (p : Plan) → p .kind ≡ 0 → hasChanges (p .kind) ≡ true
+pub changes-0 : (p : Plan) → p .kind ≡ 0 → hasChanges (p .kind) ≡ true
 unfolding hasChanges
 changes-0 p e = rw e
 
@@ -156,14 +146,30 @@ pub changes-3 : (p : Plan) → p .kind ≡ 3 → hasChanges (p .kind) ≡ true
 unfolding hasChanges
 changes-3 p e = rw e
 
-pub states-of-kind-0 : StatesOfKind0
-states-of-kind-0 p t e =
+-- where the rows of the year are the plan's own, its days are those of the rows, and the state picks one of them
+module _ (p : Plan) (t y : ℕ) (c : hasChanges (p .kind) ≡ true) (e : yearOfDay (t / 1440) .index ≡ y) (own : autumnRow p y ≡ p .autumn) where
+  own-days : springRow p y ≡ p .spring → daylightAt p t ≡ changing (springDay (p .spring) y) (autumnDay (p .autumn) y) (t / 1440)
+  unfolding daylightAt springDayOf autumnDayOf
+  own-days s = rw (c, e, s, own)
+
+  own-row : springRow p (springYear p y (t / 1440)) ≡ p .spring → (d : DaylightState) → rowFor p t d ≡ nextRow (p .spring) (p .autumn) d
+  unfolding rowFor rowOn
+  own-row s d = rw (c, e, own, s)
+
+-- kind 0: the plan's own rows in every year
+own-0 : (p : Plan) → p .kind ≡ 0 → (y : ℕ) → (springRow p y ≡ p .spring) × (autumnRow p y ≡ p .autumn)
+own-0 p e y = own-rows p y (inl (λ k. omega arith))
+
+pub row-for-0 : (p : Plan) → p .kind ≡ 0 → (t : ℕ) (d : DaylightState) → rowFor p t d ≡ nextRow (p .spring) (p .autumn) d
+row-for-0 p e t d =
     let y = yearOfDay (t / 1440) .index in
-    let c = changes-0 p e in
-    (own-days p t y c refl (own y .1) (own y .0), own-row p t y c refl (own y .1) (own (springYear p y (t / 1440)) .0))
-  where
-    own : (y : ℕ) → (springRow p y ≡ p .spring) × (autumnRow p y ≡ p .autumn)
-    own y = own-rows p y (inl (λ k. omega arith))
+    own-row p t y (changes-0 p e) refl (own-0 p e y .1) (own-0 p e (springYear p y (t / 1440)) .0) d
+
+pub states-of-kind-0 : StatesOfKind0
+unfolding rowAt
+states-of-kind-0 p t e =
+    let own = own-0 p e (yearOfDay (t / 1440) .index) in
+    (own-days p t (yearOfDay (t / 1440) .index) (changes-0 p e) refl (own .1) (own .0), row-for-0 p e t (daylightAt p t))
 
 -- from 2007 on kind 3 does the same
 year-or-next : (p : Plan) (y day : ℕ) → y ≤ springYear p y day
@@ -185,7 +191,8 @@ module _ (p : Plan) (t : ℕ) (e : p .kind ≡ 3) (late : 2006 < firstYear + yea
   days-from-2007 = own-days p t y (changes-3 p e) refl (own y (omega arith) .1) (own y (omega arith) .0)
 
   row-from-2007 : rowAt p t ≡ nextRow (p .spring) (p .autumn) (daylightAt p t)
-  row-from-2007 = own-row p t y (changes-3 p e) refl (own y (omega arith) .1) (own (springYear p y (t / 1440)) (year-or-next p y (t / 1440)) .0)
+  unfolding rowAt
+  row-from-2007 = own-row p t y (changes-3 p e) refl (own y (omega arith) .1) (own (springYear p y (t / 1440)) (year-or-next p y (t / 1440)) .0) (daylightAt p t)
 
 pub as-kind-0-from-2007 : AsKind0From2007
 as-kind-0-from-2007 p t late =

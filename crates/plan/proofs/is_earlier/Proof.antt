@@ -2,13 +2,13 @@
 -- Assumes nothing.
 use Rattle.plan.specs.Plan.{isEarlier}
 use borrow.Author.Tests.{eq-eqb, ne-eqb}
-use Rattle.plan.proofs.Laws.{to-2006}
+use Rattle.plan.proofs.Laws.{up-to}
 use Rattle.plan.proofs.is_earlier.Statement.{statement}
 use Rattle.plan.proofs.is_earlier.Tie as tie
 
 returns : tie.Need-returns
 unfolding isEarlier
-returns c = rw (eq-eqb _ _ (c .if1 .taken)) (to-2006 (c .before .args .years))
+returns c = rw (eq-eqb _ _ (c .if1 .taken)) (up-to (c .before .args .years) _)
 
 returns-2 : tie.Need-returns-2
 unfolding isEarlier
