@@ -74,15 +74,27 @@ october y =
     let l = november-late y in
     (omega arith, omega arith, omega arith)
 
+-- the days of a year, by its law
+pub earlier-days : (p : Plan) (y : ℕ) → isEarlier (p .kind) y ≡ true
+    → (springDayOf p y ≡ firstSunday (monthStart y 3)) × (autumnDayOf p y ≡ autumnDay 36 y)
+unfolding springDayOf autumnDayOf springRow autumnRow
+earlier-days p y e = rw e (april y .1, refl)
+
+pub own-days : (p : Plan) (y : ℕ) → isEarlier (p .kind) y ≡ false
+    → (springDayOf p y ≡ springDay (p .spring) y) × (autumnDayOf p y ≡ autumnDay (p .autumn) y)
+unfolding springDayOf autumnDayOf springRow autumnRow
+own-days p y e = rw e (refl, refl)
+
 earlier-holds : (kind y : ℕ) → kind ≡ 3 → firstYear + y ≤ 2006 → isEarlier kind y ≡ true
 unfolding isEarlier
 earlier-holds kind y e h = rw (eq-eqb kind 3 e, le-leb (firstYear + y) 2006 h)
 
 pub earlier-law : EarlierLaw
-unfolding springDayOf autumnDayOf springRow autumnRow
+unfolding springRow autumnRow
 earlier-law p y e h =
-    rw (earlier-holds (p .kind) y e h)
-    (april y .0, rw (april y .1) (sunday (monthStart y 3)), at-two (aprilRow y) (april y .0), refl, october y, refl)
+    let holds = earlier-holds (p .kind) y e h in
+    let days = earlier-days p y holds in
+    rw (holds, days .0, days .1) (april y .0, sunday (monthStart y 3), at-two (aprilRow y) (april y .0), refl, october y, refl)
 
 module _ (spring autumn month : ℕ) (sign : ℤ) (notice : ℕ) where
   abbrev with : ℕ → Plan
@@ -146,15 +158,18 @@ pub changes-3 : (p : Plan) → p .kind ≡ 3 → hasChanges (p .kind) ≡ true
 unfolding hasChanges
 changes-3 p e = rw e
 
--- where the rows of the year are the plan's own, its days are those of the rows, and the state picks one of them
-module _ (p : Plan) (t y : ℕ) (c : hasChanges (p .kind) ≡ true) (e : yearOfDay (t / 1440) .index ≡ y) (own : autumnRow p y ≡ p .autumn) where
-  own-days : springRow p y ≡ p .spring → daylightAt p t ≡ changing (springDay (p .spring) y) (autumnDay (p .autumn) y) (t / 1440)
-  unfolding daylightAt springDayOf autumnDayOf
-  own-days s = rw (c, e, s, own)
+-- where the rows are the plan's own, the state picks one of them
+own-row : (p : Plan) (t y : ℕ) → hasChanges (p .kind) ≡ true → yearOfDay (t / 1440) .index ≡ y → autumnRow p y ≡ p .autumn
+    → springRow p (springYear p y (t / 1440)) ≡ p .spring
+    → (d : DaylightState) → rowFor p t d ≡ nextRow (p .spring) (p .autumn) d
+unfolding rowFor rowOn
+own-row p t y c e own s d = rw (c, e, own, s)
 
-  own-row : springRow p (springYear p y (t / 1440)) ≡ p .spring → (d : DaylightState) → rowFor p t d ≡ nextRow (p .spring) (p .autumn) d
-  unfolding rowFor rowOn
-  own-row s d = rw (c, e, own, s)
+-- and the state is that of their days
+own-state : (p : Plan) (t y : ℕ) → hasChanges (p .kind) ≡ true → yearOfDay (t / 1440) .index ≡ y → isEarlier (p .kind) y ≡ false
+    → daylightAt p t ≡ changing (springDay (p .spring) y) (autumnDay (p .autumn) y) (t / 1440)
+unfolding daylightAt
+own-state p t y c e own = let days = own-days p y own in rw (c, e, days .0, days .1)
 
 -- kind 0: the plan's own rows in every year
 own-0 : (p : Plan) → p .kind ≡ 0 → (y : ℕ) → (springRow p y ≡ p .spring) × (autumnRow p y ≡ p .autumn)
@@ -168,8 +183,8 @@ row-for-0 p e t d =
 pub states-of-kind-0 : StatesOfKind0
 unfolding rowAt
 states-of-kind-0 p t e =
-    let own = own-0 p e (yearOfDay (t / 1440) .index) in
-    (own-days p t (yearOfDay (t / 1440) .index) (changes-0 p e) refl (own .1) (own .0), row-for-0 p e t (daylightAt p t))
+    let y = yearOfDay (t / 1440) .index in
+    (own-state p t y (changes-0 p e) refl (not-earlier (p .kind) y (inl (λ k. omega arith))), row-for-0 p e t (daylightAt p t))
 
 -- from 2007 on kind 3 does the same
 year-or-next : (p : Plan) (y day : ℕ) → y ≤ springYear p y day
@@ -187,8 +202,8 @@ module _ (p : Plan) (t : ℕ) (e : p .kind ≡ 3) (late : 2006 < firstYear + yea
   own : (z : ℕ) → y ≤ z → (springRow p z ≡ p .spring) × (autumnRow p z ≡ p .autumn)
   own z h = own-rows p z (inr (omega (arith, late)))
 
-  days-from-2007 : daylightAt p t ≡ changing (springDay (p .spring) y) (autumnDay (p .autumn) y) (t / 1440)
-  days-from-2007 = own-days p t y (changes-3 p e) refl (own y (omega arith) .1) (own y (omega arith) .0)
+  state-from-2007 : daylightAt p t ≡ changing (springDay (p .spring) y) (autumnDay (p .autumn) y) (t / 1440)
+  state-from-2007 = own-state p t y (changes-3 p e) refl (not-earlier (p .kind) y (inr late))
 
   row-from-2007 : rowAt p t ≡ nextRow (p .spring) (p .autumn) (daylightAt p t)
   unfolding rowAt
@@ -197,8 +212,8 @@ module _ (p : Plan) (t : ℕ) (e : p .kind ≡ 3) (late : 2006 < firstYear + yea
 pub as-kind-0-from-2007 : AsKind0From2007
 as-kind-0-from-2007 p t late =
     let zero = states-of-kind-0 (ofKind 0 p) t refl in
-    let days = days-from-2007 (ofKind 3 p) t refl late ∙ sym (zero .0) in
-    (days, row-from-2007 (ofKind 3 p) t refl late ∙ ap (nextRow (p .spring) (p .autumn)) days ∙ sym (zero .1))
+    let state = state-from-2007 (ofKind 3 p) t refl late ∙ sym (zero .0) in
+    (state, row-from-2007 (ofKind 3 p) t refl late ∙ ap (nextRow (p .spring) (p .autumn)) state ∙ sym (zero .1))
 
 -- ---- the last change of the earlier law
 

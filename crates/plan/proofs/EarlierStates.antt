@@ -2,7 +2,7 @@
 -- Assumes nothing.
 use Prim.Native.Nat.{ℕ, suc, _+_, _-_, _/_, _%_, _≤_, _<_}
 use mathlib.Core.Bool.{Bool, true, false, _&&_, _||_}
-use mathlib.Core.Path.{_≡_, refl, sym, ap, ap₂, subst, _∙_}
+use mathlib.Core.Path.{_≡_, refl, ap, ap₂, subst, _∙_}
 use native.Mathlib.Decide.{ℕ-discrete, decLt}
 use native.Mathlib.Omega.{arith}
 use lib.Dec.{leb, ltb, eqb, lit≤}
@@ -12,11 +12,10 @@ use Rattle.gregorian.specs.Gregorian.{firstYear, leapYear, monthLengths, before
 use Rattle.gregorian.specs.declared.Place.{Place}
 use Rattle.gregorian.proofs.Walk.{before-mono}
 use Rattle.gregorian.proofs.Months.{Placed, placed, year-place, month-place}
-use Rattle.calendar.specs.Calendar.{minuteCount, dateFrom, dateAt}
-use Rattle.calendar.specs.declared.Date.{Date}
+use Rattle.calendar.specs.Calendar.{dateFrom, dateAt}
 use Rattle.codewords.specs.CodeWords.{daylightNumber}
 use Rattle.plan.specs.Plan.{hasChanges, marchSunday, springDay, springDayOf, autumnDayOf, within, changing, daylightAt}
-use Rattle.plan.specs.Earlier.{LastSunday, sinceSunday, fromApril, beforeOctoberEnds, EarlierStates, FirstDay}
+use Rattle.plan.specs.Earlier.{LastSunday, fromApril, beforeOctoberEnds, EarlierStates, FirstDay}
 use Rattle.plan.specs.Theorems.{FirstSunday}
 use Rattle.plan.specs.declared.Plan.{Plan}
 use Rattle.plan.proofs.Laws.{sunday}
