@@ -7,7 +7,6 @@ use mathlib.Core.Path.{_≡_, refl, sym, ap, subst, _∙_}
 use native.Mathlib.Decide.{ℕ-discrete, decLt}
 use native.Mathlib.Omega.{arith}
 use lib.Dec.{leb, ltb, eqb, lit≤}
-use lib.IntN.{ℤ}
 use borrow.Author.Tests.{le-leb, lt-leb, lt-ltb, le-ltb, eq-eqb, ne-eqb}
 use Rattle.bits.specs.Bits.{pick}
 use Rattle.gregorian.specs.Gregorian.{firstYear, leapYear, monthLengths, before, monthsOf, yearLength, lengthsFrom, yearLengths, walk, yearOfDay, monthOfDay, monthStart}
@@ -96,18 +95,12 @@ earlier-law p y e h =
     let days = earlier-days p y holds in
     rw (holds, days .0, days .1) (april y .0, sunday (monthStart y 3), at-two (aprilRow y) (april y .0), refl, october y, refl)
 
-module _ (spring autumn month : ℕ) (sign : ℤ) (notice : ℕ) where
-  abbrev with : ℕ → Plan
-  with k = record { kind = k; spring = spring; autumn = autumn; «leap_month» = month; «leap_sign» = sign; notice = notice }
-
-  dates : EarlierDatesOf (with 3)
-  unfolding springDayOf autumnDayOf springRow autumnRow isEarlier aprilRow springDay autumnDay marchSunday novemberSunday weeks firstSunday monthStart dateAt dateFrom yearOfDay monthOfDay walk yearLengths lengthsFrom yearLength monthsOf monthLengths before leapYear
-  dates = (refl, refl)
+dates : (p : Plan) → EarlierDatesOf (ofKind 3 p)
+unfolding springDayOf autumnDayOf springRow autumnRow isEarlier aprilRow springDay autumnDay marchSunday novemberSunday weeks firstSunday monthStart dateAt dateFrom yearOfDay monthOfDay walk yearLengths lengthsFrom yearLength monthsOf monthLengths before leapYear
+dates p = (refl, refl)
 
 pub earlier-dates : EarlierDates
-earlier-dates p e =
-    subst (λ (k : ℕ). EarlierDatesOf (with (p .spring) (p .autumn) (p .«leap_month») (p .«leap_sign») (p .notice) k)) (sym e)
-    (dates (p .spring) (p .autumn) (p .«leap_month») (p .«leap_sign») (p .notice))
+earlier-dates p e = subst (λ (k : ℕ). EarlierDatesOf (ofKind k p)) (sym e) (dates p)
 
 -- ---- the plan's own rows
 
