@@ -52,17 +52,19 @@ static double now(void)
 
 typedef size_t work(const struct codec *c, uint32_t n);
 
-static uint32_t leap_month;
+/* What is written: the plan's kind, its leap month and sign, and the first minute. */
+static uint32_t kind, leap_month, first_minute = 6412320 - 20000;
 static int32_t leap_sign;
 
 static size_t write_frames(const struct codec *c, uint32_t n)
 {
-    uint32_t done, minute = 6412320 - 20000;
+    uint32_t done, minute = first_minute;
     wwvb_write_reply (*call)(uint32_t, uint32_t, uint32_t, uint32_t, int32_t, uint32_t, uint32_t, uint32_t, uint8_t *,
                              size_t) = c->write_recording;
 
     for (done = 0; done < FRAMES; done += n, minute += n) {
-        wwvb_write_reply r = call(0, 10, 37, leap_month, leap_sign, 0, minute, n, bits[0], sizeof bits[0]);
+        wwvb_write_reply r = call(kind, 10, 37, leap_month, leap_sign, 0, minute, n, bits[0],
+                                  sizeof bits[0]);
         sink += (uint32_t)r.bits + r.refusal;
     }
     return done;
@@ -291,16 +293,28 @@ static void differ(const struct codec *c, const char *where)
     exit(1);
 }
 
+/* The rows of a plan of each kind. */
+static uint32_t spring_of(uint32_t of_kind)
+{
+    return of_kind == 0 || of_kind == 3 ? 10 : 0;
+}
+
+static uint32_t autumn_of(uint32_t of_kind)
+{
+    return of_kind == 0 || of_kind == 3 ? 37 : 0;
+}
+
 /* Writes by each codec, the library first, to `input`. */
-static void write_all(uint32_t kind, uint32_t month, int32_t sign, uint32_t minute, uint32_t n)
+static void write_all(uint32_t of_kind, uint32_t month, int32_t sign, uint32_t minute, uint32_t n)
 {
     size_t k;
 
-    memset(bits, 0, sizeof bits);
     for (k = 0; k < CODECS; k++) {
-        wwvb_write_reply r = codecs[k]->write_recording(kind, kind ? 0 : 10, kind ? 0 : 37, month, sign, 0, minute, n,
-                                                        bits[k > 0], sizeof bits[0]);
-        if (r.refusal || r.bits != n * 60 || memcmp(bits[0], bits[k > 0], sizeof bits[0]))
+        uint8_t *out = memset(bits[k > 0], 0, sizeof bits[0]);
+        wwvb_write_reply r = codecs[k]->write_recording(of_kind, spring_of(of_kind),
+                                                        autumn_of(of_kind), month, sign, 0, minute,
+                                                        n, out, sizeof bits[0]);
+        if (r.refusal || r.bits != n * 60 || memcmp(bits[0], out, sizeof bits[0]))
             differ(codecs[k], "writing");
     }
     memcpy(input, bits[0], sizeof input);
@@ -408,9 +422,9 @@ static void month_end_all(uint32_t month)
     struct writing w = {0, 0, 0, 0, 0, 0, 0, 1, 0, 0, 0};
     size_t length;
 
-    w.kind = month % 3;
-    w.spring = w.kind ? 0 : 10;
-    w.autumn = w.kind ? 0 : 37;
+    w.kind = (month + month / 12) % 4;
+    w.spring = spring_of(w.kind);
+    w.autumn = autumn_of(w.kind);
     w.minute = next < 1200 ? wwvb_date_to_minute(2000 + next / 12, 1 + next % 12, 1, 0, 0).minute : WWVB_MINUTES;
     w.minute--;
     for (w.leap_sign = -1; w.leap_sign <= 1; w.leap_sign++) {
@@ -438,7 +452,11 @@ static void month_end_all(uint32_t month)
 
 /* Writings that are refused. The last three have more than one reason, and the first of the order counts. */
 static const struct writing refused[] = {
+    {4, 0, 0, 0, 0, 0, 0, 1, 0, 61, WWVB_ILLEGAL_PLAN},
+    {4, 10, 37, 0, 0, 0, 0, 1, 0, 61, WWVB_ILLEGAL_PLAN},
     {3, 0, 0, 0, 0, 0, 0, 1, 0, 61, WWVB_ILLEGAL_PLAN},
+    {3, 25, 37, 0, 0, 0, 0, 1, 0, 61, WWVB_ILLEGAL_PLAN},
+    {3, 10, 49, 0, 0, 0, 0, 1, 0, 61, WWVB_ILLEGAL_PLAN},
     {0, 0, 37, 0, 0, 0, 0, 1, 0, 61, WWVB_ILLEGAL_PLAN},
     {0, 25, 37, 0, 0, 0, 0, 1, 0, 61, WWVB_ILLEGAL_PLAN},
     {0, 10, 24, 0, 0, 0, 0, 1, 0, 61, WWVB_ILLEGAL_PLAN},
@@ -457,7 +475,7 @@ static const struct writing refused[] = {
     {0, 10, 37, 0, 0, 0, 0, -2, 0, 61, WWVB_BAD_VALUE},
     {0, 10, 37, 0, 0, 0, 0, 1, 10, 61, WWVB_BAD_VALUE},
     {0, 10, 37, 0, 0, 0, 0, 1, 0, 0, WWVB_NO_BIT_SPACE},
-    {3, 0, 0, 0, 0, 0, WWVB_MINUTES, 0, 10, 0, WWVB_ILLEGAL_PLAN},
+    {4, 0, 0, 0, 0, 0, WWVB_MINUTES, 0, 10, 0, WWVB_ILLEGAL_PLAN},
     {0, 10, 37, 0, 0, 0, WWVB_MINUTES, 0, 10, 0, WWVB_MINUTE_TOO_LARGE},
     {0, 10, 37, 0, 0, 0, 0, 0, 10, 0, WWVB_BAD_VALUE},
 };
@@ -484,6 +502,20 @@ static void amplitude_all(void)
     for (i = 0; i < sizeof refused / sizeof refused[0]; i++)
         write_minute_all(&refused[i]);
     read_minute_all(symbols[0], 0);
+}
+
+/* Kind 3 by each codec, in both codes: each day of 2000 to 2008 but the first, with the minute
+   before it. */
+static void earlier_law_all(void)
+{
+    struct writing w = {3, 10, 37, 0, 0, 0, 0, 1, 0, WWVB_MAX_FRAME, WWVB_OK};
+    uint32_t day, end = wwvb_date_to_minute(2009, 1, 1, 0, 0).minute / 1440;
+
+    for (day = 1; day < end; day++) {
+        write_all(3, 0, 0, day * 1440 - 1, 2);
+        for (w.minute = day * 1440 - 1; w.minute <= day * 1440; w.minute++)
+            write_minute_all(&w);
+    }
 }
 
 /* What is read: the plan's kind, its leap month and sign, the first minute, and whether one bit of each frame is inverted. */
@@ -521,6 +553,13 @@ int main(void)
     write_all(0, leap_month, leap_sign, 6412320 - 20000, 1000);
     for (i = 0; i < 3; i++)
         measure("written, leap month set", write_frames, sizes[i]);
+    earlier_law_all();
+    kind = 3;
+    leap_month = 0;
+    leap_sign = 0;
+    first_minute = 1715040 - 20000; /* before the first Sunday in April of 2003 */
+    write_all(kind, leap_month, leap_sign, first_minute, 1000);
+    measure("written, kind 3 in 2003", write_frames, 1);
 
     for (k = 0; k < 4; k++) {
         write_all(readings[k].kind, readings[k].month, readings[k].sign, readings[k].minute, 1000);

@@ -190,7 +190,7 @@ static void fill_tables(void)
 
 static int is_legal(const struct plan *p)
 {
-    if (p->kind == 0) {
+    if (p->kind == 0 || p->kind == 3) {
         if (p->spring < 1 || p->spring > 24 || p->autumn < 25 || p->autumn > 48)
             return 0;
     } else if (p->kind > 2 || p->spring || p->autumn) {
@@ -206,21 +206,54 @@ static uint32_t first_sunday(uint32_t day)
     return day + (8 - day % 7) % 7;
 }
 
-static unsigned is_on(const struct plan *p, uint32_t day, uint32_t year)
+/* The days of a year's changes. Kind 3 has those of the earlier law up to 2006: the first Sunday
+   in April, and the last in October, which is the one before the first in November. */
+static void changes_of(const struct plan *p, uint32_t year, uint32_t *from, uint32_t *to)
 {
     const uint16_t *starts = month_starts[year % 4 == 0];
-    uint32_t from = first_sunday(year_start(year) + starts[2]) + (p->spring - 1) % 8 * 7;
-    uint32_t to = first_sunday(year_start(year) + starts[10]) + (p->autumn - 25) % 8 * 7 - 28;
+    uint32_t start = year_start(year), november = first_sunday(start + starts[10]);
 
-    return day >= from && day < to;
+    if (p->kind == 3 && year <= 6) {
+        *from = first_sunday(start + starts[3]);
+        *to = november - 7;
+    } else {
+        *from = first_sunday(start + starts[2]) + (p->spring - 1) % 8 * 7;
+        *to = november + (p->autumn - 25) % 8 * 7 - 28;
+    }
 }
 
 /* Both bits change within one year, so the year of the day serves for the day before too. */
 static unsigned daylight_of(const struct plan *p, uint32_t day, const struct day *d)
 {
-    if (p->kind)
+    uint32_t from, to;
+
+    if (p->kind == 1 || p->kind == 2)
         return p->kind == 1 ? 0 : 3;
-    return is_on(p, day, d->year) * 2 + (day ? is_on(p, day - 1, d->year) : 0);
+    changes_of(p, d->year, &from, &to);
+    return (day >= from && day < to) * 2u + (day > from && day <= to);
+}
+
+/* The row in spring of a year up to 2006 by the earlier law: 13 where the first Sunday in April is
+   four weeks after that in March, and 14 where it is five. */
+static unsigned earlier_row(uint32_t year)
+{
+    uint32_t start = year_start(year);
+    const uint16_t *starts = month_starts[year % 4 == 0];
+
+    return first_sunday(start + starts[3]) - first_sunday(start + starts[2]) == 28 ? 13 : 14;
+}
+
+/* The row by the daylight state. Without daylight time it is that of this year's spring, or after
+   June of next year's. */
+static unsigned row_of(const struct plan *p, unsigned daylight, const struct day *d)
+{
+    uint32_t year = d->year + (d->month > 5);
+
+    if (p->kind == 1 || p->kind == 2)
+        return p->kind == 1 ? 50 : 51;
+    if (daylight >= 2)
+        return p->kind == 3 && d->year <= 6 ? 36 : p->autumn;
+    return p->kind == 3 && year <= 6 ? earlier_row(year) : p->spring;
 }
 
 static int ends_month(uint32_t minute, const struct day *d)
@@ -257,7 +290,7 @@ static size_t write_frame(const struct plan *p, uint32_t minute, uint8_t *out)
     struct day d = day_at(day);
     unsigned daylight = daylight_of(p, day, &d), leap = leap_of(p, &d), length = length_of(leap, minute, &d);
     unsigned state = state_words[leap][daylight];
-    unsigned row = p->kind == 0 ? (daylight < 2 ? p->spring : p->autumn) : p->kind == 1 ? 50 : 51;
+    unsigned row = row_of(p, daylight, &d);
 
     out = put(out, SYNC, 13);
     out = put(out, word >> 25, 6);

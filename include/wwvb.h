@@ -43,14 +43,14 @@
 /*
  * The version. A break raises MAJOR, and with it the soname of the shared library (libwwvb.so.0).
  * A break is another size or layout of an entry or a reply, another number for a refusal, another
- * signature of a call, or another answer of a call. Added calls, names and refusals of added calls
- * raise MINOR, and so do fields added to the end of wwvb_plan or wwvb_entry. The library itself
- * takes neither, so it is enough to compile again. Anything else raises PATCH.
+ * signature of a call, or another answer of a call. Added calls, names, kinds of plan and refusals
+ * of added calls raise MINOR, and so do fields added to the end of wwvb_plan or wwvb_entry. The
+ * library itself takes neither, so it is enough to compile again. Anything else raises PATCH.
  */
 #define WWVB_VERSION_MAJOR 0
-#define WWVB_VERSION_MINOR 5
+#define WWVB_VERSION_MINOR 6
 #define WWVB_VERSION_PATCH 0
-#define WWVB_VERSION "0.5.0"
+#define WWVB_VERSION "0.6.0"
 
 /* A result that must not be ignored; the compiler warns where it can. */
 #if (defined(__cplusplus) && __cplusplus >= 201703L) || \
@@ -169,9 +169,11 @@ static inline const char *wwvb_refusal_text(uint32_t refusal)
 
 /* The kinds of a plan. */
 enum wwvb_kind {
-    WWVB_KIND_ROWS = 0,      /* daylight time by a spring row and an autumn row */
-    WWVB_KIND_NONE = 1,      /* no daylight time */
-    WWVB_KIND_WHOLE_YEAR = 2 /* daylight time the whole year */
+    WWVB_KIND_ROWS = 0,       /* daylight time by a spring row and an autumn row */
+    WWVB_KIND_NONE = 1,       /* no daylight time */
+    WWVB_KIND_WHOLE_YEAR = 2, /* daylight time the whole year */
+    WWVB_KIND_EARLIER_LAW = 3 /* the United States law of 2000 to 2006, then daylight time by two
+                                 rows from 2007 on */
 };
 
 /* The daylight states of an entry or an amplitude reply: dst_on[1] dst_on[0] as a number. */
@@ -304,11 +306,14 @@ WWVB_MUST_USE wwvb_date_reply wwvb_local_date(uint32_t minute, uint32_t state, i
  * Writes the frames of `count` minutes from `first` on, each directly after the one before, by a
  * plan of six numbers:
  *   kind        enum wwvb_kind
- *   spring      WWVB_KIND_ROWS: row 1 to 24; else 0
- *   autumn      WWVB_KIND_ROWS: row 25 to 48; else 0
+ *   spring      kinds 0 and 3: row 1 to 24; else 0
+ *   autumn      kinds 0 and 3: row 25 to 48; else 0
  *   leap_month  month with a leap second at its end, 0 (January 2000) to 1199; 0 if the sign is 0
  *   leap_sign   -1, 0 or +1
  *   notice      0 or 1
+ * With WWVB_KIND_EARLIER_LAW (3), daylight time up to 2006 is from the first Sunday in April to
+ * the last Sunday in October, at 2 o'clock. The rows sent for these changes are 13 or 14, and 36.
+ * The plan's own spring row is sent from the last change of 2006 on.
  * Refusals: WWVB_ILLEGAL_PLAN (1), WWVB_BAD_COUNT (2), WWVB_MINUTE_TOO_LARGE (3) for the last
  * minute, WWVB_NO_BIT_SPACE (4). A refused writing does not report how many bytes it needs; an
  * `out_length` of WWVB_MAX_RECORDING is always enough.
@@ -397,8 +402,8 @@ WWVB_MUST_USE wwvb_amplitude_reply wwvb_read_amplitude(const uint8_t *symbols,
 /* ------------------------------------------------------------------------------------------------
  * Plans and entries as structs
  *
- * Fields may be added at the end. Make a plan from one of the two below, or from one that is all 0
- * (which is not legal until it has rows), and set fields by name.
+ * Fields may be added at the end. Make a plan from one of the three below, or from one that is all
+ * 0 (which is not legal until it has rows), and set fields by name.
  */
 
 /* A plan, as wwvb_write_recording and wwvb_write_amplitude take it in six numbers. */
@@ -429,6 +434,16 @@ WWVB_MUST_USE static inline wwvb_plan wwvb_plan_by_rows(uint32_t spring, uint32_
 WWVB_MUST_USE static inline wwvb_plan wwvb_us_plan(void)
 {
     return wwvb_plan_by_rows(WWVB_US_SPRING_ROW, WWVB_US_AUTUMN_ROW);
+}
+
+/* The plan of the United States since 2000, by the law of each year, without a leap second or a
+   notice. */
+WWVB_MUST_USE static inline wwvb_plan wwvb_us_plan_since_2000(void)
+{
+    wwvb_plan plan = wwvb_us_plan();
+
+    plan.kind = WWVB_KIND_EARLIER_LAW;
+    return plan;
 }
 
 /* wwvb_write_recording by a plan that is a struct. */
@@ -493,8 +508,9 @@ WWVB_MUST_USE static inline wwvb_entry wwvb_entry_at(const uint8_t *entries, siz
  * row has no hour. An entry that the caller made may also give 3, for its minute, or 16, for its
  * state.
  * On the day of a change the row is that of the change after today's. So the hour is right if both
- * changes of a year come at the same hour, as in the United States. Where they do not, keep the
- * row of the day before and call wwvb_local_date with its hour.
+ * changes of a year come at the same hour, as in the United States. With WWVB_KIND_EARLIER_LAW the
+ * row of 2006-10-29 is the plan's own spring row, so there that row has to be of 2 o'clock too.
+ * Where the hours differ, keep the row of the day before and call wwvb_local_date with its hour.
  */
 WWVB_MUST_USE static inline wwvb_date_reply wwvb_entry_local_date(const wwvb_entry *entry,
                                                                   int32_t offset)

@@ -2,6 +2,7 @@
  * Compares every call of the library with the plain C reference: on boundary cases, and on seeded random ones, valid and
  * damaged. Each buffer stands between guard bytes and a page that may not be touched; buffer and guards are compared
  * whole after the call, refused or not. Each number that a call can give is seen, and no other; no call gives 12.
+ * Plans of each kind are written, those of kind 3 by the earlier law and by their own rows.
  *
  * usage: compare [CASES [SEED [exact]]]
  *   exact: buffers are blocks of malloc of just their length, for valgrind
@@ -49,6 +50,8 @@ static int can_give(enum call c, unsigned n)
 static unsigned long seen[CALLS][NUMBERS]; /* by call and number */
 static unsigned long later[NUMBERS];       /* refusals of a recording's later frames */
 static unsigned long lengths[CALLS][62];
+static unsigned long kinds[4]; /* accepted writings by the plan's kind */
+static unsigned long own_rows; /* those of kind 3 from 2007 on, by the plan's own rows */
 static unsigned long cases;
 static uint64_t seed = 1;
 static int exact;
@@ -217,6 +220,18 @@ static void try_to_minute(uint32_t year, uint32_t month, uint32_t day, uint32_t 
         fail(TO_MINUTE, "the minute");
 }
 
+/* 2007-01-01 00:00. */
+#define OWN_ROWS_BEGIN 3682080u
+
+/* Counts an accepted writing by the plan's kind. */
+static void count_kind(const struct ref_plan *p, uint32_t first)
+{
+    if (p->kind == 3 && first >= OWN_ROWS_BEGIN)
+        own_rows++;
+    else
+        kinds[p->kind]++;
+}
+
 static void try_write(const struct ref_plan *p, uint32_t first, uint32_t n, size_t space)
 {
     size_t bits = 0;
@@ -233,6 +248,8 @@ static void try_write(const struct ref_plan *p, uint32_t first, uint32_t n, size
     if (r.bits != bits)
         fail(WRITE, "the number of bits");
     check(WRITE, &out_buffer, "the buffer");
+    if (refusal == 0)
+        count_kind(p, first);
     if (refusal == 0 && n == 1)
         lengths[WRITE][bits]++;
 }
@@ -298,8 +315,10 @@ static void try_write_amplitude(const struct ref_plan *p, uint32_t minute, int32
     if (r.bits != symbols)
         fail(WRITE_AMPLITUDE, "the number of symbols");
     check(WRITE_AMPLITUDE, &out_buffer, "the buffer");
-    if (refusal == 0)
+    if (refusal == 0) {
+        count_kind(p, minute);
         lengths[WRITE_AMPLITUDE][symbols]++;
+    }
 }
 
 static unsigned try_read_amplitude(const uint8_t *symbols, size_t length)
@@ -344,13 +363,13 @@ static struct ref_plan random_plan(void)
 {
     struct ref_plan p = {0, 0, 0, 0, 0, 0};
 
-    p.kind = one_in(3) ? 1 + below(2) : 0;
-    if (p.kind == 0) {
+    p.kind = one_in(4) ? 1 + below(2) : one_in(2) ? 3 : 0;
+    if (p.kind == 0 || p.kind == 3) {
         p.spring = 1 + below(24);
         p.autumn = 25 + below(24);
     }
     p.leap_sign = (int32_t)below(3) - 1;
-    p.leap_month = p.leap_sign ? below(1200) : 0;
+    p.leap_month = p.leap_sign ? below(p.kind == 3 && one_in(2) ? 108 : 1200) : 0;
     p.notice = below(2);
     return p;
 }
@@ -370,7 +389,7 @@ static uint32_t odd_number(uint32_t limit)
 static void spoil(struct ref_plan *p)
 {
     switch (below(7)) {
-    case 0: p->kind = odd_number(2); break;
+    case 0: p->kind = odd_number(3); break;
     case 1: p->spring = odd_number(one_in(2) ? 24 : 48); break;
     case 2: p->autumn = odd_number(one_in(2) ? 24 : 48); break;
     case 3: p->leap_month = odd_number(1199); break;
@@ -380,11 +399,21 @@ static void spoil(struct ref_plan *p)
     }
 }
 
-/* A minute near something: a month's end, the leap month's, a change of state, a limit; or any. */
+/* A minute of 2000 to 2008 at which a state or a row may change: the first of a Sunday, of a
+   Monday or of a year. */
+static uint32_t early_change(void)
+{
+    return one_in(8) ? month_end(12 * below(9) + 11) + 1 : (1 + 7 * below(469) + below(2)) * 1440;
+}
+
+/* A minute near something: a month's end, the leap month's, a change of state, a limit; or any.
+   With kind 3 every other one is near a change of 2000 to 2008. */
 static uint32_t random_minute(const struct ref_plan *p)
 {
     uint32_t m;
 
+    if (p->kind == 3 && one_in(2))
+        return early_change() + below(5) - 2;
     switch (below(6)) {
     case 0: m = month_end(p->leap_month); break;
     case 1: m = month_end(below(1200)); break;
@@ -807,14 +836,26 @@ static void boundary_local(void)
     try_local(0, 0, -240, 0xffffffffu);
 }
 
-/* A local clock through a year: minute by minute it moves by one, but for one hour forward and one back. */
-static void boundary_clock(int32_t offset, uint32_t hour, uint32_t year)
+/* Whether a date is the Sunday among seven days of a month. */
+static int is_sunday(const wwvb_date_reply *d, uint32_t month, uint32_t from)
+{
+    return d->weekday == 1 && d->month == month && d->day >= from && d->day < from + 7;
+}
+
+/* A local clock through a year, by a plan of the United States of kind 0 or 3: minute by minute it
+   moves by one, but for one hour forward and one back, each on its Sunday. */
+static void boundary_clock(uint32_t kind, int32_t offset, uint32_t hour, uint32_t year)
 {
     struct ref_plan p = {0, 10, 37, 0, 0, 0};
     struct ref_date d = {0, 1, 1, 0, 0, 0};
+    int earlier = kind == 3 && year < 2007;
+    /* the first in April and the last in October; the second in March and the first in November */
+    uint32_t spring_month = earlier ? 4 : 3, spring_from = earlier ? 1 : 8;
+    uint32_t autumn_month = earlier ? 10 : 11, autumn_from = earlier ? 25 : 1;
     uint32_t first, last, t, forward = 0, back = 0;
     int64_t before = 0;
 
+    p.kind = kind;
     d.year = year;
     ref_date_to_minute(&d, &first);
     d.year = year + 1;
@@ -829,8 +870,10 @@ static void boundary_clock(int32_t offset, uint32_t hour, uint32_t year)
         count(LOCAL, r.refusal);
         now = ref_date_to_minute(&local, &clock) == 0 ? (int64_t)clock : (int64_t)r.hour * 60 + r.minute - 1440;
         if (t > first && now != before + 1) {
-            forward += now == before + 61 && r.hour == hour + 1 && r.minute == 0 && r.month == 3;
-            back += now == before - 59 && r.hour == hour - 1 && r.minute == 0 && r.month == 11;
+            forward += now == before + 61 && r.hour == hour + 1 && r.minute == 0
+                && is_sunday(&r, spring_month, spring_from);
+            back += now == before - 59 && r.hour == hour - 1 && r.minute == 0
+                && is_sunday(&r, autumn_month, autumn_from);
             if (now != before + 61 && now != before - 59)
                 fail(LOCAL, "the step of the clock");
         }
@@ -847,11 +890,11 @@ static void boundary_plans(void)
     uint32_t kind, month;
     int32_t sign;
 
-    for (kind = 0; kind <= 3; kind++)
+    for (kind = 0; kind <= 5; kind++)
         for (i = 0; i < n; i++)
             for (k = 0; k < n; k++) {
                 struct ref_plan p = {0, 0, 0, 0, 0, 0};
-                p.kind = kind;
+                p.kind = kind < 5 ? kind : 0xffffffffu;
                 p.spring = rows[i];
                 p.autumn = rows[k];
                 try_write(&p, below(MINUTES), 1, 60);
@@ -895,6 +938,27 @@ static void boundary_changes(void)
                 try_write(&p, day * 1440 - 1, 2, 120);
             }
         }
+}
+
+/* Kind 3 by pairs of own rows: each day of 2000 to 2008, from the minute before it, in both codes;
+   and the first and the last minutes of all. */
+static void boundary_earlier_law(void)
+{
+    struct ref_plan p = {3, 0, 0, 0, 0, 0};
+    uint32_t row, day, days = month_end(107) / 1440 + 1;
+
+    for (row = 0; row < 24; row++) {
+        p.spring = 1 + row;
+        p.autumn = row % 2 ? 25 + row : 48 - row;
+        p.notice = row % 2;
+        try_write(&p, 0, 2, 120);
+        try_write(&p, MINUTES - 2, 2, 120);
+        for (day = 1; day <= days; day++) {
+            try_write(&p, day * 1440 - 1, 2, 120);
+            if (day % 7 < 3)
+                try_write_amplitude(&p, day * 1440 - row % 2, 1, row % 10, 61);
+        }
+    }
 }
 
 static void boundary_counts(void)
@@ -993,7 +1057,8 @@ static void boundary_echoes(void)
     for (month = 0; month < 1200; month++)
         for (sign = -1; sign <= 1; sign++) {
             struct ref_plan p = random_plan();
-            uint32_t minute = sign ? month_end(month) : below(MINUTES), first = minute ? minute - 1 : 0;
+            uint32_t minute = sign ? month_end(month) : random_minute(&p);
+            uint32_t first = minute ? minute - 1 : 0;
             size_t at, length;
             if (first > MINUTES - 3)
                 first = MINUTES - 3;
@@ -1047,7 +1112,7 @@ static void boundary_inversions(void)
     for (month = 0; month < 1200; month++)
         for (sign = -1; sign <= 1; sign++) {
             struct ref_plan p = random_plan();
-            uint32_t minute = sign ? month_end(month) : below(MINUTES);
+            uint32_t minute = sign ? month_end(month) : random_minute(&p);
             wwvb_write_reply w;
             size_t length;
             p.leap_sign = sign;
@@ -1101,6 +1166,86 @@ static void boundary_recordings(void)
     try_read(bits, 0, 12);
 }
 
+/* The time-word places, of 31, in which two frames differ. */
+static unsigned distance(const uint8_t *frame, const uint8_t *other)
+{
+    unsigned place, n = 0;
+
+    for (place = 1; place <= 31; place++)
+        n += frame[ref_bit_of_place(place)] != other[ref_bit_of_place(place)];
+    return n;
+}
+
+#define RANKS 3u
+
+/* A recording of RANKS frames, by rank: as the library writes it, as it is received, and the
+   entries as sent. */
+struct pair_half {
+    uint8_t written[RANKS * WWVB_MAX_FRAME], received[RANKS * WWVB_MAX_FRAME];
+    uint8_t sent[RANKS * WWVB_ENTRY_SIZE];
+    size_t at[RANKS + 1]; /* where each frame begins, and the last ends */
+};
+
+/* Each frame is received with one place of its time word inverted or none, and any bits at 19, 29
+   and 39. The recording is read as sent. */
+static void try_half(const struct ref_plan *p, uint32_t first, struct pair_half *h)
+{
+    wwvb_write_reply w = wwvb_write_recording(p->kind, p->spring, p->autumn, p->leap_month,
+                                              p->leap_sign, p->notice, first, RANKS, h->written,
+                                              sizeof h->written);
+    uint32_t k;
+
+    if (w.refusal != 0)
+        fail(WRITE, "the number for a legal plan");
+    memcpy(h->received, h->written, w.bits);
+    h->at[0] = 0;
+    for (k = 0; k < RANKS; k++) {
+        uint8_t *entry = h->sent + k * WWVB_ENTRY_SIZE;
+        hear(p, first + k, below(32), below(2), h->received + h->at[k], entry);
+        h->at[k + 1] = h->at[k] + entry[WWVB_ENTRY_LENGTH];
+    }
+    if (h->at[RANKS] != w.bits)
+        fail(WRITE, "the number of bits");
+    try_read(h->received, w.bits, sizeof h->sent);
+    if (memcmp(out_buffer.at, h->sent, sizeof h->sent) != 0)
+        fail(READ, "the entries as sent");
+}
+
+/* Two recordings by plans of each two kinds, with other first minutes: at each rank the frames
+   differ in three places or more as written, and are not equal as received. */
+static void boundary_pairs(void)
+{
+    struct pair_half half[2];
+    uint32_t i, j, k;
+
+    for (i = 0; i < 16000; i++) {
+        uint32_t first[2];
+
+        for (j = 0; j < 2; j++) {
+            struct ref_plan p;
+
+            do
+                p = random_plan();
+            while (p.kind != (j ? i / 4 % 4 : i % 4));
+            first[j] = j && one_in(2) ? first[0] + 1 : random_minute(&p);
+            if (first[j] > MINUTES - RANKS - 1)
+                first[j] = MINUTES - RANKS - 1;
+            if (j && first[1] == first[0])
+                first[1]++;
+            try_half(&p, first[j], &half[j]);
+        }
+        for (k = 0; k < RANKS; k++) {
+            size_t a = half[0].at[k], b = half[1].at[k], length = half[0].at[k + 1] - a;
+
+            if (distance(half[0].written + a, half[1].written + b) < 3)
+                fail(WRITE, "the least number of places between two minutes");
+            if (length == half[1].at[k + 1] - b
+                && memcmp(half[0].received + a, half[1].received + b, length) == 0)
+                fail(WRITE, "the frame of another minute");
+        }
+    }
+}
+
 /* Writing in the amplitude code by every kind, and by rows in and out of range. */
 static void boundary_write_amplitude_rows(void)
 {
@@ -1108,11 +1253,11 @@ static void boundary_write_amplitude_rows(void)
     uint32_t kind;
     size_t i, k;
 
-    for (kind = 0; kind <= 4; kind++)
+    for (kind = 0; kind <= 5; kind++)
         for (i = 0; i < sizeof rows / sizeof *rows; i++)
             for (k = 0; k < sizeof rows / sizeof *rows; k++) {
                 struct ref_plan q = {0, 0, 0, 0, 0, 0};
-                q.kind = kind < 4 ? kind : 0xffffffffu;
+                q.kind = kind < 5 ? kind : 0xffffffffu;
                 q.spring = rows[i];
                 q.autumn = rows[k];
                 try_write_amplitude(&q, below(MINUTES), 1, 0, 61);
@@ -1352,7 +1497,7 @@ static void boundary_codes(void)
     for (month = 0; month < 1200; month++)
         for (sign = -1; sign <= 1; sign++) {
             struct ref_plan p = random_plan();
-            uint32_t minute = sign ? month_end(month) : below(MINUTES), tenths = below(10);
+            uint32_t minute = sign ? month_end(month) : random_minute(&p), tenths = below(10);
             wwvb_write_reply w, v;
             wwvb_amplitude_reply a;
             wwvb_entry e;
@@ -1497,8 +1642,15 @@ static int report(void)
         }
         printf("\n");
     }
+    printf("%-22s", "accepted plans");
+    for (n = 0; n < 4; n++) {
+        printf(" kind %u:%lu", n, kinds[n]);
+        missing += kinds[n] == 0;
+    }
+    printf(" kind 3 from 2007:%lu\n", own_rows);
+    missing += own_rows == 0;
     if (missing)
-        fprintf(stderr, "compare: %d numbers or lengths were never seen\n", missing);
+        fprintf(stderr, "compare: %d numbers, lengths or kinds were never seen\n", missing);
     return missing;
 }
 
@@ -1518,15 +1670,20 @@ int main(int argc, char **argv)
     boundary_dates();
     boundary_local();
     if (!exact) {
-        boundary_clock(-600, 1, 2000);
-        boundary_clock(-360, 2, 2026);
-        boundary_clock(-240, 3, 2099);
+        boundary_clock(0, -600, 1, 2000);
+        boundary_clock(0, -360, 2, 2026);
+        boundary_clock(0, -240, 3, 2099);
+        boundary_clock(3, -300, 2, 2002);
+        boundary_clock(3, -600, 2, 2006);
+        boundary_clock(3, -360, 2, 2007);
         boundary_plans();
         boundary_changes();
+        boundary_earlier_law();
         boundary_counts();
         boundary_frames();
         boundary_echoes();
         boundary_inversions();
+        boundary_pairs();
         boundary_amplitude();
         boundary_codes();
     }

@@ -121,6 +121,8 @@ static void refusals(void)
 
     CHECK(wwvb_minute_to_date(0).refusal == WWVB_OK);
     CHECK(wwvb_write_recording(0, 0, 0, 0, 0, 0, 0, 1, bits, sizeof bits).refusal == WWVB_ILLEGAL_PLAN);
+    CHECK(wwvb_write_recording(4, 10, 37, 0, 0, 0, 0, 1, bits, sizeof bits).refusal ==
+          WWVB_ILLEGAL_PLAN);
     CHECK(wwvb_write_recording(1, 0, 0, 0, 0, 0, 0, 0, bits, sizeof bits).refusal == WWVB_BAD_COUNT);
     CHECK(wwvb_write_recording(1, 0, 0, 0, 0, 0, 52595999, 2, bits, sizeof bits).refusal ==
           WWVB_MINUTE_TOO_LARGE);
@@ -157,6 +159,8 @@ static void amplitude_refusals(void)
 
     memset(bits, 99, 70);
     w = wwvb_write_amplitude(3, 0, 0, 0, 0, 0, 52596000, 0, 10, bits, 0);
+    CHECK(w.refusal == WWVB_ILLEGAL_PLAN && w.bits == 0);
+    w = wwvb_write_amplitude(4, 10, 37, 0, 0, 0, 52596000, 0, 10, bits, 0);
     CHECK(w.refusal == WWVB_ILLEGAL_PLAN && w.bits == 0);
     w = wwvb_write_amplitude(1, 0, 0, 0, 0, 0, 52596000, 0, 10, bits, 0);
     CHECK(w.refusal == WWVB_MINUTE_TOO_LARGE && w.bits == 0);
@@ -285,6 +289,64 @@ static void numbers(void)
     CHECK(entry_of(frame_of(1, 0, 0, 149, 1, 0, JUNE_ENDS + 1)).leap == WWVB_LEAP_NONE);
 }
 
+/* Whether a plan sends a row and a daylight state in the frame of a minute. */
+static int sends(const wwvb_plan *plan, uint32_t minute, uint32_t row, uint32_t daylight)
+{
+    size_t n = wwvb_write(plan, minute, 1, bits, sizeof bits).bits;
+    wwvb_entry e = entry_of(n);
+
+    return e.minute == minute && e.row == row && e.daylight == daylight;
+}
+
+/* The law of 2000 to 2006, and the rows from then on, by what is sent: in 2003 from 04-06 to
+   10-26, in 2006 to 10-29, and in 2007 from 03-11 to 11-04. */
+static void earlier_law(void)
+{
+    wwvb_plan us = wwvb_us_plan_since_2000();
+
+    CHECK(us.kind == WWVB_KIND_EARLIER_LAW && us.spring == 10 && us.autumn == 37);
+    CHECK(us.leap_month == 0 && us.leap_sign == 0 && us.notice == 0);
+    CHECK(sends(&us, 0, 13, WWVB_DAYLIGHT_OFF));
+    CHECK(sends(&us, 1715039, 14, WWVB_DAYLIGHT_OFF));
+    CHECK(sends(&us, 1715040, 36, WWVB_DAYLIGHT_BEGINS));
+    CHECK(sends(&us, 1716480, 36, WWVB_DAYLIGHT_ON));
+    CHECK(sends(&us, 2007359, 36, WWVB_DAYLIGHT_ON));
+    CHECK(sends(&us, 2007360, 13, WWVB_DAYLIGHT_ENDS));
+    CHECK(sends(&us, 2008800, 13, WWVB_DAYLIGHT_OFF));
+    CHECK(sends(&us, 3589919, 36, WWVB_DAYLIGHT_ON));
+    CHECK(sends(&us, 3589920, WWVB_US_SPRING_ROW, WWVB_DAYLIGHT_ENDS));
+    CHECK(sends(&us, 3781439, WWVB_US_SPRING_ROW, WWVB_DAYLIGHT_OFF));
+    CHECK(sends(&us, 3781440, WWVB_US_AUTUMN_ROW, WWVB_DAYLIGHT_BEGINS));
+    CHECK(sends(&us, 4124159, WWVB_US_AUTUMN_ROW, WWVB_DAYLIGHT_ON));
+    CHECK(sends(&us, 4124160, WWVB_US_SPRING_ROW, WWVB_DAYLIGHT_ENDS));
+
+    /* the same by numbers, and what the rows alone send on that day */
+    CHECK(entry_of(frame_of(WWVB_KIND_EARLIER_LAW, 10, 37, 0, 0, 0, 1715040)).row == 36);
+    CHECK(entry_of(frame_of(WWVB_KIND_ROWS, 10, 37, 0, 0, 0, 1715040)).daylight ==
+          WWVB_DAYLIGHT_ON);
+    CHECK(frame_of(WWVB_KIND_EARLIER_LAW, 0, 0, 0, 0, 0, 1715040) == 0);
+}
+
+/* Local dates on the last change of the earlier law, 2006-10-29 in New York: back from 2 to 1
+   o'clock at 06:00 UTC. The row is the plan's own in spring, so the hour is that row's. */
+static void earlier_law_clock(void)
+{
+    wwvb_plan us = wwvb_us_plan_since_2000();
+    wwvb_entry e = entry_of(wwvb_write(&us, 3589920 + 359, 1, bits, sizeof bits).bits);
+    wwvb_date_reply d = wwvb_entry_local_date(&e, -300);
+
+    CHECK(d.refusal == WWVB_OK && d.month == 10 && d.day == 29 && d.hour == 1 && d.minute == 59);
+    e = entry_of(wwvb_write(&us, 3589920 + 360, 1, bits, sizeof bits).bits);
+    d = wwvb_entry_local_date(&e, -300);
+    CHECK(d.refusal == WWVB_OK && d.month == 10 && d.day == 29 && d.hour == 1 && d.minute == 0);
+    us.spring = 2; /* second Sunday in March at 1 o'clock */
+    e = entry_of(wwvb_write(&us, 3589920 + 359, 1, bits, sizeof bits).bits);
+    d = wwvb_entry_local_date(&e, -300);
+    CHECK(e.row == 2 && d.hour == 0 && d.minute == 59);
+    d = wwvb_local_date(e.minute, e.daylight, -300, wwvb_change_hour(36)); /* of the day before */
+    CHECK(d.refusal == WWVB_OK && d.hour == 1 && d.minute == 59);
+}
+
 /* The structs' calls beside those with numbers. */
 static void structs(void)
 {
@@ -387,6 +449,8 @@ int main(void)
     amplitude();
     fields();
     numbers();
+    earlier_law();
+    earlier_law_clock();
     structs();
     names();
     version();

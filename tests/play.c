@@ -26,7 +26,7 @@
 
 #define NAMED 20     /* failed cases that are named */
 #define GUARD 64     /* guard bytes on either side of a buffer */
-#define LONGER 40    /* bytes more, where an accepted writing is tried in a longer buffer */
+#define LONGER 40    /* bytes more, where a call is tried again with a longer buffer */
 #define MOST 1000000 /* the longest buffer that a line may ask for */
 
 static void *room_for(size_t bytes)
@@ -100,6 +100,17 @@ static void say_digits(struct text *t, const uint8_t *bytes, size_t n)
         say(t, "-");
     for (i = 0; i < n; i++)
         say(t, "%c", bytes[i] <= 9 ? '0' + bytes[i] : '?');
+}
+
+/* Bytes in hex, two digits each; none at all are a minus. */
+static void say_hex(struct text *t, const uint8_t *bytes, size_t n)
+{
+    size_t i;
+
+    if (n == 0)
+        say(t, "-");
+    for (i = 0; i < n; i++)
+        say(t, "%02x", bytes[i]);
 }
 
 /* ---- lines */
@@ -307,15 +318,20 @@ static wwvb_write_reply write_minute(const wwvb_plan *p, uint32_t minute, int32_
                                 p->notice, minute, sign, tenths, out->at, out->length);
 }
 
+/* What a writing gave, and the bits or symbols in its buffer. */
+static void say_written(wwvb_write_reply r, struct buffer *out, struct text *got)
+{
+    say(got, "%zu %zu ", r.refusal, r.bits);
+    say_digits(got, out->at, r.bits <= out->length ? r.bits : out->length);
+    done_with(out, r.refusal ? 0 : r.bits, got);
+}
+
 static void say_writing(const wwvb_plan *p, uint32_t minute, int32_t sign, uint32_t tenths,
                         size_t length, struct text *got)
 {
     struct buffer out = buffer_of(NULL, length);
-    wwvb_write_reply r = write_minute(p, minute, sign, tenths, &out);
 
-    say(got, "%zu %zu ", r.refusal, r.bits);
-    say_digits(got, out.at, r.bits <= length ? r.bits : length);
-    done_with(&out, r.refusal ? 0 : r.bits, got);
+    say_written(write_minute(p, minute, sign, tenths, &out), &out, got);
 }
 
 /* write-amplitude PLAN MINUTE UT1-SIGN TENTHS BUFFER-LENGTH = REFUSAL COUNT SYMBOLS
@@ -427,39 +443,151 @@ static void say_by_amplitude(const wwvb_plan *p, uint32_t minute, int32_t sign, 
     done_with(&out, w.bits, got);
 }
 
-/* A minute written in the phase code, as a recording of one frame, and read. */
-static void say_by_phase(const wwvb_plan *p, uint32_t minute, struct text *got)
+static wwvb_write_reply write_frames(const wwvb_plan *p, uint32_t first, uint32_t count,
+                                     const struct buffer *out)
+{
+    return wwvb_write_recording(p->kind, p->spring, p->autumn, p->leap_month, p->leap_sign,
+                                p->notice, first, count, out->at, out->length);
+}
+
+/* Writes a minute's frame, as a recording of one, and reads it. Gives whether both are accepted,
+   and the entry. The faults are whatever is not as sent, but for what the caller says: daylight,
+   leap, row and length. */
+static int by_phase(const wwvb_plan *p, uint32_t minute, wwvb_entry *e, struct text *faults)
 {
     struct buffer out = buffer_of(NULL, WWVB_MAX_FRAME), in, entry;
-    wwvb_write_reply w = wwvb_write_recording(p->kind, p->spring, p->autumn, p->leap_month,
-                                              p->leap_sign, p->notice, minute, 1, out.at,
-                                              out.length);
+    wwvb_write_reply w = write_frames(p, minute, 1, &out);
     uint32_t refusal;
 
     if (w.refusal != WWVB_OK || w.bits > out.length) {
-        say(got, "writing gives %zu and %zu bits", w.refusal, w.bits);
-        done_with(&out, 0, got);
-        return;
+        say(faults, "writing gives %zu and %zu bits", w.refusal, w.bits);
+        done_with(&out, 0, faults);
+        return 0;
     }
     in = buffer_of(out.at, w.bits);
-    entry = buffer_of(NULL, WWVB_ENTRY_SIZE);
+    entry = buffer_of(NULL, WWVB_ENTRY_SIZE + (filling ? LONGER : 0));
     refusal = wwvb_read_frame(in.at, in.length, entry.at, entry.length);
     if (refusal != WWVB_OK) {
-        say(got, "reading gives %" PRIu32, refusal);
+        say(faults, "reading gives %" PRIu32, refusal);
     } else {
-        wwvb_entry e = wwvb_entry_at(entry.at, 0);
+        *e = wwvb_entry_at(entry.at, 0);
+        if (e->length != w.bits)
+            say(faults, ", and %zu bits are written", w.bits);
+        if (e->minute != minute)
+            say(faults, ", and the minute read is %" PRIu32, e->minute);
+        if (e->notice != p->notice)
+            say(faults, ", and the notice read is %" PRIu32, e->notice);
+        if (e->place != 0)
+            say(faults, ", and place %" PRIu32 " is repaired", e->place);
+        if (e->echo != 1)
+            say(faults, ", and the echo is %" PRIu32, e->echo);
+    }
+    done_with(&entry, refusal ? 0 : WWVB_ENTRY_SIZE, faults);
+    done_with(&in, 0, faults);
+    done_with(&out, w.bits, faults);
+    return refusal == WWVB_OK;
+}
+
+/* A minute written in the phase code and read. */
+static void say_by_phase(const wwvb_plan *p, uint32_t minute, struct text *got)
+{
+    struct text faults = {NULL, 0, 0};
+    wwvb_entry e;
+
+    clear(&faults);
+    if (by_phase(p, minute, &e, &faults)) {
         wwvb_date_reply d = wwvb_minute_to_date(e.minute);
 
         say_date(got, d.year, d.month, d.day, d.hour, d.minute, d.weekday);
         say(got, " ");
         say_daylight(got, e.daylight);
         say(got, " %" PRIu32, e.length);
-        if (e.length != w.bits)
-            say(got, ", and %zu bits are written", w.bits);
     }
-    done_with(&entry, refusal ? 0 : WWVB_ENTRY_SIZE, got);
+    say(got, "%s", faults.at);
+    free(faults.at);
+}
+
+/* plan-at PLAN MINUTE = DAYLIGHT LEAP ROW LENGTH
+   No call gives these alone, so the minute's frame is written and read. */
+static void plan_at(struct line *l, struct text *got)
+{
+    wwvb_plan p = plan(l);
+    uint32_t minute = number(l);
+    struct text faults = {NULL, 0, 0};
+    wwvb_entry e;
+
+    if (!inputs_end(l))
+        return;
+    clear(&faults);
+    if (by_phase(&p, minute, &e, &faults)) {
+        say_daylight(got, e.daylight);
+        say(got, " %" PRIu32 " %" PRIu32 " %" PRIu32, e.leap, e.row, e.length);
+    }
+    say(got, "%s", faults.at);
+    free(faults.at);
+}
+
+static void say_frames(const wwvb_plan *p, uint32_t first, uint32_t count, size_t length,
+                       struct text *got)
+{
+    struct buffer out = buffer_of(NULL, length);
+
+    say_written(write_frames(p, first, count, &out), &out, got);
+}
+
+/* write-recording PLAN FIRST COUNT BUFFER-LENGTH = REFUSAL COUNT BITS
+   What is accepted is written again in a longer buffer, with the same answer. */
+static void write_recording(struct line *l, struct text *got)
+{
+    wwvb_plan p = plan(l);
+    uint32_t first = number(l);
+    uint32_t count = number(l);
+    size_t length = space(l);
+    struct text again = {NULL, 0, 0};
+
+    if (!inputs_end(l))
+        return;
+    say_frames(&p, first, count, length, got);
+    if (strncmp(got->at, "0 ", 2) != 0)
+        return;
+    clear(&again);
+    say_frames(&p, first, count, length + LONGER, &again);
+    if (strcmp(got->at, again.at) != 0)
+        say(got, ", and in a longer buffer %s", again.at);
+    free(again.at);
+}
+
+/* Reads a recording with so much entry space; gives the refusal. */
+static size_t say_entries(const struct bytes *b, size_t length, struct text *got)
+{
+    struct buffer in = buffer_of(b->at, b->length), entries = buffer_of(NULL, length);
+    wwvb_read_reply r = wwvb_read_recording(in.at, in.length, entries.at, entries.length);
+    size_t bytes = r.entries <= length / WWVB_ENTRY_SIZE ? r.entries * WWVB_ENTRY_SIZE : length;
+
+    say(got, "%zu %zu %zu ", r.entries, r.used, r.refusal);
+    say_hex(got, entries.at, bytes);
+    done_with(&entries, bytes, got);
     done_with(&in, 0, got);
-    done_with(&out, w.bits, got);
+    return r.refusal;
+}
+
+/* read-recording BITS ENTRY-SPACE = ENTRIES BITS-USED REFUSAL ENTRIES-IN-HEX
+   Unless space for an entry is missing, the bits are read again with more space, with the same
+   answer. */
+static void read_recording(struct line *l, struct text *got)
+{
+    struct bytes b = symbols(l);
+    size_t length = space(l);
+    struct text again = {NULL, 0, 0};
+
+    if (inputs_end(l) && say_entries(&b, length, got) != WWVB_NO_ENTRY_SPACE) {
+        clear(&again);
+        say_entries(&b, length + LONGER, &again);
+        if (strcmp(got->at, again.at) != 0)
+            say(got, ", and with more space %s", again.at);
+        free(again.at);
+    }
+    free(b.at);
 }
 
 /* both-codes PLAN MINUTE UT1-SIGN TENTHS
@@ -490,6 +618,9 @@ static const struct form {
     {"read-amplitude", read_amplitude},
     {"read-amplitude-bytes", read_amplitude_bytes},
     {"both-codes", both_codes},
+    {"plan-at", plan_at},
+    {"write-recording", write_recording},
+    {"read-recording", read_recording},
 };
 
 /* ---- files */

@@ -195,7 +195,7 @@ static int says(const uint8_t *bits, const char *word, size_t n)
 
 static int legal(const struct ref_plan *p)
 {
-    if (p->kind == 0) {
+    if (p->kind == 0 || p->kind == 3) {
         if (p->spring < 1 || p->spring > 24 || p->autumn < 25 || p->autumn > 48)
             return 0;
     } else if (p->kind > 2 || p->spring != 0 || p->autumn != 0) {
@@ -219,21 +219,66 @@ static uint32_t first_sunday(unsigned year, unsigned month)
     return day;
 }
 
+static uint32_t last_sunday(unsigned year, unsigned month)
+{
+    uint32_t day = day_of(year, month, month_lengths[leap_year(year)][month - 1]);
+
+    while (day % 7 != 1)
+        day--;
+    return day;
+}
+
+/* The day of a row's change in a year. */
+static uint32_t day_of_row(unsigned row, unsigned year)
+{
+    if (row <= 24)
+        return first_sunday(year, 3) + (row - 1) % 8 * 7;
+    return first_sunday(year, 11) + (row - 25) % 8 * 7 - 28;
+}
+
+/* Whether a year has the earlier law of the United States: with kind 3, up to 2006. */
+static int earlier_law(const struct ref_plan *p, unsigned year)
+{
+    return p->kind == 3 && year <= 2006;
+}
+
+static uint32_t spring_day(const struct ref_plan *p, unsigned year)
+{
+    return earlier_law(p, year) ? first_sunday(year, 4) : day_of_row(p->spring, year);
+}
+
+static uint32_t autumn_day(const struct ref_plan *p, unsigned year)
+{
+    return earlier_law(p, year) ? last_sunday(year, 10) : day_of_row(p->autumn, year);
+}
+
+/* The row of a year's change in spring; of the earlier law it is 13 or 14, whichever falls on the
+   day. */
+static unsigned spring_row(const struct ref_plan *p, unsigned year)
+{
+    if (!earlier_law(p, year))
+        return p->spring;
+    return day_of_row(13, year) == spring_day(p, year) ? 13 : 14;
+}
+
+static unsigned autumn_row(const struct ref_plan *p, unsigned year)
+{
+    return earlier_law(p, year) ? 36 : p->autumn;
+}
+
 /* dst_on[1] as a day has it: 1 from the spring day on, 0 from the autumn day on. */
 static unsigned on(const struct ref_plan *p, uint32_t day)
 {
     unsigned year = date_of(day * 1440).year;
-    uint32_t begins = first_sunday(year, 3) + (p->spring - 1) % 8 * 7;
-    uint32_t ends = first_sunday(year, 11) + (p->autumn - 25) % 8 * 7 - 28;
 
-    return day >= begins && day < ends;
+    return day >= spring_day(p, year) && day < autumn_day(p, year);
 }
 
 unsigned ref_daylight(const struct ref_plan *p, uint32_t minute)
 {
     uint32_t day = minute / 1440;
 
-    if (p->kind != 0)
+    if (p->kind == 1 || p->kind == 2)
         return p->kind == 1 ? 0 : 3;
     return on(p, day) * 2 + (day == 0 ? 0 : on(p, day - 1));
 }
@@ -247,11 +292,18 @@ static unsigned leap(const struct ref_plan *p, uint32_t minute)
     return p->leap_sign < 0 ? 1 : 2;
 }
 
-static unsigned row(const struct ref_plan *p, unsigned state)
+/* The row of the next change: while dst_on[1] is 1, that of the year's autumn; else that of
+   spring, of this year before its spring day, and of the following year from the autumn day on. */
+static unsigned row(const struct ref_plan *p, uint32_t minute)
 {
-    if (p->kind != 0)
+    uint32_t day = minute / 1440;
+    unsigned year = date_of(minute).year;
+
+    if (p->kind == 1 || p->kind == 2)
         return p->kind == 1 ? 50 : 51;
-    return state < 2 ? p->spring : p->autumn;
+    if (on(p, day))
+        return autumn_row(p, year);
+    return spring_row(p, day < spring_day(p, year) ? year : year + 1);
 }
 
 static unsigned length_for(unsigned leap_state, uint32_t minute)
@@ -284,7 +336,7 @@ static unsigned write_frame(const struct ref_plan *p, uint32_t minute, uint8_t *
     frame[48] = word[1] - '0';
     frame[49] = p->notice;
     put(frame + 50, word + 2);
-    put(frame + 53, next_words[row(p, state)]);
+    put(frame + 53, next_words[row(p, minute)]);
     memcpy(out, frame, length);
     return length;
 }
@@ -314,7 +366,7 @@ void ref_entry_as_sent(const struct ref_plan *p, uint32_t minute, unsigned place
 {
     unsigned state = ref_daylight(p, minute), leap_state = leap(p, minute);
     uint8_t bytes[12] = {minute >> 24, minute >> 16 & 255, minute >> 8 & 255, minute & 255, length_for(leap_state, minute),
-                         state, leap_state, row(p, state), p->notice, place, echo, 0};
+                         state, leap_state, row(p, minute), p->notice, place, echo, 0};
 
     memcpy(entry, bytes, 12);
 }

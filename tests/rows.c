@@ -14,6 +14,7 @@
 
 #define NEXT 53 /* the first bit of the next-change word */
 #define JANUARY 0u /* dst_on[1] is 0, and the spring row is sent */
+#define DAYS_TO_2009 3288u /* from 2000-01-01 to 2009-01-01 */
 #define JULY 262080u /* 2000-07-01 00:00: dst_on[1] is 1, and the autumn row is sent */
 
 static unsigned rows[2];
@@ -114,6 +115,23 @@ static void try_rows(void)
     try_recording(&p, JULY, 1000);
 }
 
+/* Kind 3, by each spring row and each autumn row of its own: every day of 2000 to 2008, with the
+   minute before it. Up to 2006 the rows sent are 13, 14 and 36, and then the plan's. */
+static void try_earlier_law(void)
+{
+    struct ref_plan p = {3, 0, 0, 69, 0, 0};
+    uint32_t day;
+
+    for (p.spring = 1; p.spring <= 24; p.spring++) {
+        p.autumn = 49 - p.spring;
+        p.leap_sign = p.spring % 2 ? 1 : -1; /* at the end of October 2005 */
+        p.notice = p.spring % 2;
+        try_recording(&p, 0, 3);
+        for (day = 1; day <= DAYS_TO_2009; day++)
+            try_recording(&p, day * 1440 - 1, 2);
+    }
+}
+
 /* Every word of six bits with either value of dst_on[1]: refused or read as the reference does, the two rows exchanged. */
 static void try_words(void)
 {
@@ -156,6 +174,7 @@ int main(int argc, char **argv)
         memcpy(words[i], frame + NEXT, 6);
     }
     try_rows();
+    try_earlier_law();
     try_words();
     for (i = 1; i <= 51; i++)
         if (i != 49 && frames[i] == 0)

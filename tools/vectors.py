@@ -96,6 +96,29 @@ def change_minute(row, year):
     return minute_of(year, 11, first_sunday(year, 11)) + (k - 4) * 7 * 1440
 
 
+def sundays(year, month):
+    """The Sundays of a month."""
+    days = range(1, calendar.monthrange(year, month)[1] + 1)
+    return [d for d in days if datetime.date(year, month, d).isoweekday() == 7]
+
+
+@functools.lru_cache(maxsize=None)
+def year_changes(kind, spring, autumn, year):
+    """The two changes of a year, by kind 0 or 3: 00:00 UTC of the day, and the row. With kind 3
+    those up to 2006 are by the earlier United States law: on the first Sunday in April, with row
+    13 or 14, whichever falls on it, and on the last Sunday in October, with row 36."""
+    if kind == 3 and year <= 2006:
+        begins = minute_of(year, 4, sundays(year, 4)[0])
+        ends = minute_of(year, 10, sundays(year, 10)[-1])
+        [row] = [row for row in (13, 14) if change_minute(row, year) == begins]
+        return (begins, row), (ends, 36)
+    return (change_minute(spring, year), spring), (change_minute(autumn, year), autumn)
+
+
+def changes(plan, year):
+    return year_changes(*plan[:3], year)
+
+
 def month_of(minute):
     d = date_of(minute)
     return (d.year - 2000) * 12 + d.month - 1
@@ -109,23 +132,36 @@ def is_month_end(minute):
 
 def legal(plan):
     kind, spring, autumn, month, sign, notice = plan
-    rows = 1 <= spring <= 24 and 25 <= autumn <= 48 if kind == 0 else kind in (1, 2) and spring == autumn == 0
+    if kind in (0, 3):
+        rows = 1 <= spring <= 24 and 25 <= autumn <= 48
+    else:
+        rows = kind in (1, 2) and spring == autumn == 0
     leap = month == 0 if sign == 0 else sign in (1, -1) and month <= 1199
     return rows and leap and notice in (0, 1)
 
 
+def is_on(plan, minute):
+    """dst_on[1] of a plan with changes."""
+    (begins, _), (ends, _) = changes(plan, date_of(minute).year)
+    return begins <= minute < ends
+
+
+def next_row(plan, minute):
+    """The row of the first change after a minute, which may come in the following year."""
+    year = date_of(minute).year
+    return next(row for y in (year, year + 1) for at, row in changes(plan, y) if at > minute)
+
+
 def facts(plan, minute):
     """Length, dst_on[1] dst_on[0], leap state, row."""
-    kind, spring, autumn, month, sign, _ = plan
+    kind, _, _, month, sign, _ = plan
     if kind == 1:
         dst, row = "00", 50
     elif kind == 2:
         dst, row = "11", 51
     else:
-        year = date_of(minute).year
-        on = lambda t: change_minute(spring, year) <= t < change_minute(autumn, year)
-        dst = f"{on(minute):d}{on(minute - 1440):d}"
-        row = autumn if dst[0] == "1" else spring
+        dst = f"{is_on(plan, minute):d}{is_on(plan, minute - 1440):d}"
+        row = next_row(plan, minute)
     leap = {0: 0, -1: 1, 1: 2}[sign] if month_of(minute) == month else 0
     length = {0: 60, 1: 59, 2: 61}[leap] if is_month_end(minute) else 60
     return length, dst, leap, row
@@ -324,6 +360,7 @@ def check_sum(data):
 CASES = []
 LINES = []
 USUAL = (0, 10, 37, 0, 0, 0)
+LAW = (3, 10, 37, 0, 0, 0)
 LONG = (0, 10, 37, 149, 1, 0)
 SHORT = (0, 10, 37, 149, -1, 0)
 JULY_4 = 6_578_970
@@ -459,9 +496,9 @@ def local(m, state, offset, hour):
 def local_changes(plan, year, offset, hour):
     """The clock around both changes, from their instants and not from the state: the local clock of standard time strikes the
     hour in spring, that of daylight time in autumn."""
-    _, spring, autumn, *_ = plan
-    begins = change_minute(spring, year) + 60 * hour - offset
-    ends = change_minute(autumn, year) + 60 * hour - (offset + 60)
+    (begins, _), (ends, _) = changes(plan, year)
+    begins += 60 * hour - offset
+    ends += 60 * hour - (offset + 60)
     for m in (begins - 1, begins, ends - 60, ends - 1, ends, ends + 59, ends + 60):
         state = int(facts(plan, m)[1], 2)
         answer = (0, *shown(date_of(m + offset + 60 * (begins <= m < ends))))
@@ -727,7 +764,7 @@ def local_lines():
 
 
 def writings():
-    for plan in ((3, 0, 0, 0, 0, 0), (0, 0, 37, 0, 0, 0), (0, 25, 37, 0, 0, 0), (0, 10, 24, 0, 0, 0), (0, 10, 49, 0, 0, 0),
+    for plan in ((4, 0, 0, 0, 0, 0), (0, 0, 37, 0, 0, 0), (0, 25, 37, 0, 0, 0), (0, 10, 24, 0, 0, 0), (0, 10, 49, 0, 0, 0),
                  (1, 10, 0, 0, 0, 0), (1, 0, 37, 0, 0, 0), (2, 0, 37, 0, 0, 0), (0, 10, 37, 1200, 1, 0),
                  (0, 10, 37, 1200, -1, 0), (0, 10, 37, 1, 0, 0), (0, 10, 37, 0, 2, 0), (0, 10, 37, 0, -2, 0),
                  (0, 10, 37, 0, 0, 2)):
@@ -735,7 +772,7 @@ def writings():
     for numbers in ((0, 0, 60), (0, 1001, 124), (0, 2**32 - 1, 124), (LAST, 2, 124), (LAST + 1, 1, 60), (2**32 - 1, 1, 60),
                     (2**32 - 1, 1000, 60), (JULY_4, 1, 59), (JULY_4, 2, 119), (JULY_4, 1, 0)):
         written(USUAL, *numbers)
-    written((3, 0, 0, 0, 0, 0), 0, 0, 60)
+    written((4, 0, 0, 0, 0, 0), 0, 0, 60)
     written(USUAL, LAST + 1, 0, 60)
     written(USUAL, LAST + 1, 1, 0)
     written(USUAL, JULY_4, 1, 60)
@@ -870,7 +907,7 @@ def amplitude_writings():
     for d in ((2000, 12, 31, 23, 59), (2001, 12, 31, 23, 59), (2001, 1, 1, 0, 0), (2012, 2, 29, 12, 0), (2013, 3, 1, 12, 0)):
         amplitude_written(USUAL, minute_of(*d), 1, 3)
     # question 1: kind, rows, leap month, leap sign, notice
-    for plan in ((3, 0, 0, 0, 0, 0), (0, 0, 37, 0, 0, 0), (0, 10, 49, 0, 0, 0), (1, 10, 37, 0, 0, 0), (0, 10, 37, 1200, 1, 0),
+    for plan in ((4, 0, 0, 0, 0, 0), (0, 0, 37, 0, 0, 0), (0, 10, 49, 0, 0, 0), (1, 10, 37, 0, 0, 0), (0, 10, 37, 1200, 1, 0),
                  (0, 10, 37, 149, 0, 0), (0, 10, 37, 149, 2, 0), (0, 10, 37, 149, -2, 0), (0, 10, 37, 0, 0, 2)):
         amplitude_written(plan, JULY_4, 1, 4)
     # question 3
@@ -885,7 +922,7 @@ def amplitude_writings():
         amplitude_written(plan, m, -1, 6, length)
     amplitude_written(USUAL, JULY_4, 1, 4, 0)
     # no to two questions, then to all: the first is given
-    illegal = (3, 0, 0, 0, 0, 0)
+    illegal = (4, 0, 0, 0, 0, 0)
     for numbers in ((illegal, LAST + 1, 1, 4), (USUAL, LAST + 1, 0, 4), (USUAL, LAST + 1, 1, 10), (USUAL, JULY_4, 0, 4, 59),
                     (USUAL, JULY_4, 1, 10, 59), (illegal, JULY_4, 0, 4), (illegal, JULY_4, 1, 4, 59), (USUAL, LAST + 1, 1, 4, 59),
                     (illegal, LAST + 1, 0, 10, 0)):
@@ -957,6 +994,105 @@ def amplitude_readings():
     amplitude_read("Table 10, 59 symbols, second 49 at 0", changed(map(int, TABLE_10_AMPLITUDE[:59]), (49, "0")))
 
 
+def law_changes(plan, year):
+    """The minutes around each change of a year."""
+    for at, _ in changes(plan, year):
+        minutes(f"{plan_text(plan)}, change of {year}:", plan, at - 1, at, at + 1439, at + 1440)
+
+
+def law_minutes():
+    """What kind 3 gives minutes of 2000 to 2008."""
+    minutes("the first minutes of 2000:", LAW, 0, 1, 1439, 1440)
+    for year in range(2000, 2009):
+        law_changes(LAW, year)
+        end = minute_of(year + 1, 1, 1)
+        minutes(f"the end of {year}:", LAW, end - 1, end, end + 1439, end + 1440)
+        # where the own rows would have changed the clock; kind 0 does
+        for row in (10, 37):
+            at = change_minute(row, year)
+            minutes(f"row {row} of {year}, kind 3:", LAW, at, at + 1440)
+            minutes(f"row {row} of {year}, kind 0:", USUAL, at, at + 1440)
+    # days about the last change of the earlier law and the first ones of the own rows
+    for d in ((2006, 10, 28), (2006, 10, 29), (2006, 10, 30), (2006, 12, 31), (2007, 1, 1),
+              (2007, 3, 10), (2007, 3, 11), (2007, 3, 12), (2007, 11, 3), (2007, 11, 4),
+              (2007, 11, 5)):
+        minutes(f"kind 3, day{spaced(*d)}:", LAW, minute_of(*d), minute_of(*d) + 1439)
+    minutes("the last minutes of all:", LAW, LAST - 1440, LAST)
+    # other own rows: none is sent before the last change of 2006
+    for row in range(1, 25):
+        plan = (3, row, 49 - row, 0, 0, row % 2)
+        (begins, _), (ends, _) = changes(plan, 2006)
+        minutes(f"{plan_text(plan)} in 2006:", plan, begins - 1, begins, ends - 1, ends)
+        law_changes(plan, 2007)
+
+
+def law_frames():
+    """Frames and recordings of kind 3, written and read."""
+    for year in range(2000, 2008):
+        for at, _ in changes(LAW, year):
+            carried(LAW, at - 1, 3)
+            sent(LAW, at + 1440)
+    sent(LAW, 0)
+    sent(LAW, 1_844_250)
+    for plan in ((3, 1, 25, 0, 0, 1), (3, 24, 48, 0, 0, 1), (3, 3, 28, 0, 0, 1)):
+        carried(plan, minute_of(2006, 10, 29) - 1, 2)
+        carried(plan, minute_of(2007, 1, 1) - 1, 2)
+    long(LAW, minute_of(2006, 10, 29) - 500, 1000)
+    long((3, 10, 37, 83, 1, 0), minute_of(2007, 1, 1) - 500, 1000)
+    # a leap second in a month of change, and at the end of 2005 and of 2006
+    for month, d in ((57, (2004, 11, 1)), (71, (2006, 1, 1)), (83, (2007, 1, 1))):
+        for sign in (1, -1):
+            carried((3, 10, 37, month, sign, 1), minute_of(*d) - 2, 3)
+    # frames of several kinds in one recording, if the minutes count up
+    m = 1_843_200
+    none, whole = (1, 0, 0, 0, 0, 0), (2, 0, 0, 0, 0, 1)
+    for plan, other in ((LAW, USUAL), (USUAL, LAW), (none, LAW), (LAW, whole)):
+        joined(plan, m, other, m + 1)
+    joined(LAW, m, LAW, m + 2)
+    for place in (0, 1, 17, 31):
+        heard(LAW, minute_of(2003, 4, 6), place, (place % 2, 1, 0))
+        places, frees = (place, 31 - place, 5), ((0, 0, 1), (1, 1, 0), (place % 2, 0, 0))
+        all_heard(LAW, minute_of(2006, 10, 29) - 1, places, frees)
+    for k in (0, 12, 13, 19, 29, 39, 46, 47, 49, 52, 53, 58, 59):
+        one_inverted(LAW, 1_844_250, k)
+
+
+def law_refusals():
+    """Question 1 takes kind 3 with the rows of kind 0; the other questions and their order."""
+    rows = ((0, 0), (0, 37), (25, 37), (10, 24), (10, 49), (10, 0), (37, 10), (2**32 - 1, 37),
+            (10, 2**32 - 1))
+    others = ((1200, 1, 0), (80, 0, 0), (80, 2, 0), (80, -2, 0), (0, 0, 2))
+    kinds = ((4, 10, 37), (5, 10, 37), (255, 0, 0), (259, 10, 37), (2**32 - 1, 10, 37))
+    refused = [(3, *r, 0, 0, 0) for r in rows] + [(3, 10, 37, *o) for o in others]
+    refused += [(*k, 0, 0, 0) for k in kinds]
+    accepted = [(3, 1, 25, 0, 0, 0), (3, 24, 48, 0, 0, 0), (3, 10, 37, 1199, -1, 1)]
+    for plan in refused + accepted:
+        assert legal(plan) == (plan in accepted)
+        written(plan, 2_848_320, 1, 61)
+        amplitude_written(plan, 2_848_320, 1, 2, 60)
+    for numbers in ((0, 0, 61), (0, 1001, 0), (LAST, 2, 0), (2**32 - 1, 1000, 61), (LAST, 1, 59),
+                    (0, 1, 60), (0, 2, 119)):
+        written(LAW, *numbers)
+    amplitude_written((3, 10, 49, 0, 0, 0), LAST + 1, 0, 10, 0)
+    amplitude_written(LAW, LAST + 1, 0, 10, 0)
+    amplitude_written(LAW, 0, 0, 0, 0)
+    amplitude_written(LAW, 0, 1, 0, 59)
+
+
+def law_amplitude():
+    """The amplitude code of kind 3, and local dates by its states."""
+    for year in range(2000, 2008):
+        for (at, _), sign in zip(changes(LAW, year), (1, -1)):
+            for m in (at - 1, at, at + 1440):
+                amplitude_written(LAW, m, sign, year % 10)
+    for month, d in ((57, (2004, 11, 1)), (71, (2006, 1, 1))):
+        for sign in (1, -1):
+            amplitude_written((3, 10, 37, month, sign, 0), minute_of(*d) - 1, sign, 3)
+    for year in (2000, 2003, 2006, 2007):
+        for offset in (-300, -600, -330):
+            local_changes(LAW, year, offset, 2)
+
+
 EXAMPLE_LINE = "0 10 37 0 0 0 6578970 1"
 
 LISTED = [
@@ -978,7 +1114,12 @@ LISTED = [
     ("nine nines", "0 10 37 0 0 0 999999999 999999999"),
     ("nine nines as minute", "0 10 37 0 0 0 999999999 1"),
     ("nine nines as kind", "999999999 10 37 0 0 0 6578970 1"),
-    ("no such kind", "3 0 0 0 0 0 6578970 1"),
+    ("kind 3", "3 10 37 0 0 0 1844250 1"),
+    ("kind 3, two frames over a change", "3 1 25 0 0 0 3589919 2"),
+    ("kind 3 without rows", "3 0 0 0 0 0 1844250 1"),
+    ("kind 3, rows in the other order", "3 37 10 0 0 0 1844250 1"),
+    ("no such kind", "4 0 0 0 0 0 6578970 1"),
+    ("no such kind, with rows", "4 10 37 0 0 0 6578970 1"),
     ("rows in the other order", "0 37 10 0 0 0 6578970 1"),
     ("rows without a kind", "1 10 37 0 0 0 6578970 1"),
     ("notice 2", "0 10 37 0 0 2 6578970 1"),
@@ -986,7 +1127,7 @@ LISTED = [
     ("count 1001", "0 10 37 0 0 0 6578970 1001"),
     ("minute after the last", "0 10 37 0 0 0 52596000 1"),
     ("last minute too large", "0 10 37 0 0 0 52595999 2"),
-    ("questions 1, 2 and 3", "3 0 0 0 0 0 52596000 0"),
+    ("questions 1, 2 and 3", "4 0 0 0 0 0 52596000 0"),
     ("questions 2 and 3", "0 10 37 0 0 0 52596000 0"),
     ("ten digits", "0 10 37 0 0 0 0006578970 1"),
     ("ten digits first", "0000000000 10 37 0 0 0 6578970 1"),
@@ -1032,6 +1173,7 @@ LISTED = [
     ("120 bytes that begin well", EXAMPLE_LINE + " " * 97),
     ("1,000 frames", "0 10 37 0 0 0 6578970 1000"),
     ("1,000 frames, one of 59 seconds", "0 10 37 149 -1 1 6573100 1000"),
+    ("kind 3, 1,000 frames over a change", "3 10 37 0 0 0 3589500 1000"),
     ("the longest", "0 10 37 1199 1 0 52595000 1000"),
 ]
 
@@ -1061,6 +1203,10 @@ def main():
     inversions()
     amplitude_writings()
     amplitude_readings()
+    law_minutes()
+    law_frames()
+    law_refusals()
+    law_amplitude()
     listings()
     assert GIVEN == NUMBERS
     text = "\n".join(LINES) + "\n"
