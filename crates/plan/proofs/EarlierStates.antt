@@ -2,6 +2,7 @@
 -- Assumes nothing.
 use Prim.Native.Nat.{ℕ, suc, _+_, _-_, _/_, _%_, _≤_, _<_}
 use mathlib.Core.Bool.{Bool, true, false, _&&_, _||_}
+use mathlib.Core.Logic.{inr}
 use mathlib.Core.Path.{_≡_, refl, ap, ap₂, subst, _∙_}
 use native.Mathlib.Decide.{ℕ-discrete, decLt}
 use native.Mathlib.Omega.{arith}
@@ -14,23 +15,13 @@ use Rattle.gregorian.proofs.Walk.{before-mono}
 use Rattle.gregorian.proofs.Months.{Placed, placed, year-place, month-place}
 use Rattle.calendar.specs.Calendar.{dateFrom, dateAt}
 use Rattle.codewords.specs.CodeWords.{daylightNumber}
-use Rattle.plan.specs.Plan.{hasChanges, marchSunday, springDay, springDayOf, autumnDayOf, within, changing, daylightAt}
-use Rattle.plan.specs.Earlier.{LastSunday, fromApril, beforeOctoberEnds, EarlierStates, FirstDay}
+use Rattle.plan.specs.Plan.{hasChanges, marchSunday, springDay, autumnDay, springRow, autumnRow, springDayOf, autumnDayOf, within, changing, daylightAt}
+use Rattle.plan.specs.Earlier.{LastSunday, fromAprilSunday, beforeOctoberSunday, EarlierStates, FirstDay}
 use Rattle.plan.specs.Theorems.{FirstSunday}
 use Rattle.plan.specs.declared.Plan.{Plan}
-use Rattle.plan.proofs.Laws.{sunday}
+use Rattle.plan.proofs.Laws.{sunday, month-starts}
 use Rattle.plan.proofs.Follows.{high-bit}
-use Rattle.plan.proofs.Earlier.{changes-3, earlier-law}
-
--- the days of April and October
-month-days : (b : Bool) → (before (monthLengths b) 4 ≡ before (monthLengths b) 3 + 30) × (before (monthLengths b) 10 ≡ before (monthLengths b) 9 + 31)
-unfolding before monthLengths
-month-days true = (refl, refl)
-month-days false = (refl, refl)
-
-month-starts : (y : ℕ) → (monthStart y 4 ≡ monthStart y 3 + 30) × (monthStart y 10 ≡ monthStart y 9 + 31)
-unfolding monthStart monthsOf
-month-starts y = let d = month-days (leapYear (firstYear + y)) in (omega arith, omega arith)
+use Rattle.plan.proofs.Earlier.{with-changes, earlier-law}
 
 start-mono : (y j k : ℕ) → j ≤ k → monthStart y j ≤ monthStart y k
 unfolding monthStart
@@ -68,22 +59,22 @@ module _ (y day month rest : ℕ) (low : monthStart y month + rest ≡ day) (hig
                   let same : monthStart y month ≡ monthStart y 3 = ap (monthStart y) e in
                   rw (le-ltb 4 (month + 1) (omega arith), eq-eqb (month + 1) 4 (omega arith))
                   (from-first-sunday (monthStart y 3) sunday day rest f (omega (arith, same)))
-              | no n ↦ rw (le-leb sunday day (omega (arith, f .2, month-starts y .0, start-mono y 4 month (omega arith))), lt-ltb 4 (month + 1) (omega arith))
+              | no n ↦ rw (le-leb sunday day (omega (arith, f .2, month-starts y .1, start-mono y 4 month (omega arith))), lt-ltb 4 (month + 1) (omega arith))
             ]
       ]
 
   in-autumn : (sunday : ℕ) → LastSunday (monthStart y 10) sunday → ltb day sunday ≡ (ltb (month + 1) 10 || (eqb (month + 1) 10 && ltb (rest + 1) (25 + since)))
   in-autumn sunday l =
       elim (decLt month 9) [
-        | yes h ↦ rw (lt-ltb day sunday (omega (arith, l .2, month-starts y .1, start-mono y (suc month) 9 h)), lt-ltb (month + 1) 10 (omega arith))
+        | yes h ↦ rw (lt-ltb day sunday (omega (arith, l .2, month-starts y .2, start-mono y (suc month) 9 h)), lt-ltb (month + 1) 10 (omega arith))
         | no h ↦
             elim (ℕ-discrete month 9) [
               | yes e ↦
                   let same : monthStart y month ≡ monthStart y 9 = ap (monthStart y) e in
                   let end : monthStart y (suc month) ≡ monthStart y 10 = ap (λ (k : ℕ). monthStart y (suc k)) e in
-                  let last : LastSunday (monthStart y 9 + 31) sunday = subst (λ (n : ℕ). LastSunday n sunday) (month-starts y .1) l in
+                  let last : LastSunday (monthStart y 9 + 31) sunday = subst (λ (n : ℕ). LastSunday n sunday) (month-starts y .2) l in
                   rw (le-ltb (month + 1) 10 (omega arith), eq-eqb (month + 1) 10 (omega arith))
-                  (before-last-sunday (monthStart y 9) sunday day rest last (omega (arith, same)) (omega (arith, same, end, month-starts y .1)))
+                  (before-last-sunday (monthStart y 9) sunday day rest last (omega (arith, same)) (omega (arith, same, end, month-starts y .2)))
               | no n ↦ rw (le-ltb day sunday (omega (arith, l .1, start-mono y 10 month (omega arith))), le-ltb (month + 1) 10 (omega arith), ne-eqb (month + 1) 10 (λ e. omega arith))
             ]
       ]
@@ -104,13 +95,13 @@ module _ (t : ℕ) (q : Placed (t / 1440)) where
   unfolding monthStart
   high = omega (arith, q .inYear .low, q .inMonth .high)
 
-  from-april : (sunday : ℕ) → FirstSunday (monthStart (q .year) 3) sunday → leb sunday (t / 1440) ≡ fromApril (dateAt t)
+  from-april-sunday : (sunday : ℕ) → FirstSunday (monthStart (q .year) 3) sunday → leb sunday (t / 1440) ≡ fromAprilSunday (dateAt t)
   unfolding dateAt dateFrom
-  from-april sunday f = rw (month-place (t / 1440) q) (in-spring (q .year) (t / 1440) (q .month) in-month low high sunday f)
+  from-april-sunday sunday f = rw (month-place (t / 1440) q) (in-spring (q .year) (t / 1440) (q .month) in-month low high sunday f)
 
-  before-october-ends : (sunday : ℕ) → LastSunday (monthStart (q .year) 10) sunday → ltb (t / 1440) sunday ≡ beforeOctoberEnds (dateAt t)
+  before-october-sunday : (sunday : ℕ) → LastSunday (monthStart (q .year) 10) sunday → ltb (t / 1440) sunday ≡ beforeOctoberSunday (dateAt t)
   unfolding dateAt dateFrom
-  before-october-ends sunday l = rw (month-place (t / 1440) q) (in-autumn (q .year) (t / 1440) (q .month) in-month low high sunday l)
+  before-october-sunday sunday l = rw (month-place (t / 1440) q) (in-autumn (q .year) (t / 1440) (q .month) in-month low high sunday l)
 
 -- dst_on[1] of kinds 0 and 3
 on-between : (p : Plan) (t y : ℕ) → hasChanges (p .kind) ≡ true → yearOfDay (t / 1440) .index ≡ y
@@ -124,13 +115,14 @@ unfolding dateAt dateFrom
 year-of t = refl
 
 pub earlier-states : EarlierStates
+unfolding springDayOf autumnDayOf
 earlier-states p t k h early =
     let q = placed (t / 1440) (omega arith) in
     let e : yearOfDay (t / 1440) .index ≡ q .year = ap (λ (x : Place). x .index) (year-place (t / 1440) q) in
     let law = earlier-law p (q .year) k (omega (arith, e, year-of t)) in
-    let spring = from-april t q (springDayOf p (q .year)) (law .1) in
-    let autumn = before-october-ends t q (autumnDayOf p (q .year)) (law .4) in
-    on-between p t (q .year) (changes-3 p k) e ∙ ap (λ (b : Bool). pick b 1 0) (ap₂ _&&_ spring autumn)
+    let spring = from-april-sunday t q (springDay (springRow p (q .year)) (q .year)) (law .1) in
+    let autumn = before-october-sunday t q (autumnDay (autumnRow p (q .year)) (q .year)) (law .4) in
+    on-between p t (q .year) (with-changes p (inr k)) e ∙ ap (λ (b : Bool). pick b 1 0) (ap₂ _&&_ spring autumn)
 
 -- ---- the first day
 
@@ -151,4 +143,4 @@ pub first-day : FirstDay
 unfolding daylightAt changing within
 first-day p t c h =
     let d : t / 1440 ≡ 0 = omega arith in
-    rw (c, d, first-year, lt-leb (springDayOf p 0) 0 (after-first-day p), lt-leb (springDayOf p 0 + 1) 0 (omega arith))
+    rw (with-changes p c, d, first-year, lt-leb (springDayOf p 0) 0 (after-first-day p), lt-leb (springDayOf p 0 + 1) 0 (omega arith))

@@ -4,9 +4,8 @@ use Prim.Native.Nat.{ℕ}
 use mathlib.Core.Path.{_≡_, sym, ap₂, _∙_}
 use native.Mathlib.Omega.{arith}
 use borrow.Author.Needs.{needs}
-use Rattle.gregorian.specs.Gregorian.{monthStart}
 use Rattle.codewords.specs.CodeWords.{daylightNumber}
-use Rattle.plan.specs.Plan.{firstSunday, autumnDay, springDayOf, autumnDayOf, changing}
+use Rattle.plan.specs.Plan.{aprilSunday, autumnDay, springDayOf, autumnDayOf, changing}
 use Rattle.plan.specs.declared.Plan.{Plan}
 use Rattle.plan.proofs.Laws.{spring-small, spring-day-of-small, autumn-small, autumn-day-of-small}
 use Rattle.plan.proofs.Earlier.{earlier-days, own-days}
@@ -36,7 +35,7 @@ module _ (c : tie.After-autumn-day) where
   abbrev years : ℕ
   years = c .before .before .before .before .args .years
 
-  law : (springDayOf plan years ≡ firstSunday (monthStart years 3)) × (autumnDayOf plan years ≡ autumnDay 36 years)
+  law : (springDayOf plan years ≡ aprilSunday years) × (autumnDayOf plan years ≡ autumnDay 36 years)
   law = earlier-days plan years (sym (c .before .before .before .is-earlier .ensures) ∙ c .before .before .if1 .taken)
 
   spring-is : c .before .april-sunday .result ≡ springDayOf plan years
