@@ -19,14 +19,14 @@ use Rattle.plan.proofs.Changes.{first-sundays}
 
 -- ---- the kinds
 
+pub legal-kinds : LegalKinds
+unfolding legalPlan legalRows hasChanges
+legal-kinds p = (refl, λ h. rw (ne-eqb (p .kind) 0 (λ e. omega arith), ne-eqb (p .kind) 3 (λ e. omega arith), lt-leb (p .kind) 2 (omega arith)))
+
 pub with-changes : (p : Plan) → WithChanges p → hasChanges (p .kind) ≡ true
 unfolding hasChanges
 with-changes p (inl e) = rw e
 with-changes p (inr e) = rw e
-
-pub legal-kinds : LegalKinds
-unfolding legalPlan legalRows hasChanges
-legal-kinds p = (refl, λ h. rw (ne-eqb (p .kind) 0 (λ e. omega arith), ne-eqb (p .kind) 3 (λ e. omega arith), lt-leb (p .kind) 2 (omega arith)))
 
 -- ---- the earlier law
 
