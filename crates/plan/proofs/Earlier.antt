@@ -12,7 +12,7 @@ use Rattle.gregorian.specs.Gregorian.{firstYear, leapYear, monthLengths, before
 use Rattle.calendar.specs.Calendar.{dateFrom, dateAt}
 use Rattle.plan.specs.Plan.{hasChanges, legalRows, legalPlan, firstSunday, marchSunday, novemberSunday, weeks, springDay, autumnDay, aprilSunday, aprilRow, isEarlier, springRow, autumnRow, springDayOf, autumnDayOf}
 use Rattle.plan.specs.Theorems.{FirstSunday}
-use Rattle.plan.specs.Earlier.{ofKind, LegalKinds, changeHour, LastSunday, EarlierLaw, EarlierDatesOf, EarlierDates, OwnRows, WithChanges}
+use Rattle.plan.specs.Earlier.{ofKind, LegalKinds, changeHour, HoursOfRows, LastSunday, EarlierLaw, EarlierDatesOf, EarlierDates, OwnRows, WithChanges}
 use Rattle.plan.specs.declared.Plan.{Plan}
 use Rattle.plan.proofs.Laws.{sunday, month-starts, november-late}
 use Rattle.plan.proofs.Changes.{first-sundays}
@@ -55,6 +55,9 @@ april y =
 april-first : (y : ℕ) → FirstSunday (monthStart y 3) (aprilSunday y)
 unfolding aprilSunday
 april-first y = sunday (monthStart y 3)
+
+pub hours-of-rows : HoursOfRows
+hours-of-rows group week g w = (omega arith, omega arith)
 
 at-two : (row : ℕ) → (row ≡ 13) ⊎ (row ≡ 14) → changeHour 1 row ≡ 2
 at-two row (inl e) = omega arith

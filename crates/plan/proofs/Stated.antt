@@ -1,12 +1,12 @@
 -- Every statement of specs with its proof: where a proof is missing, this module is not proved.
 -- Assumes nothing.
 use Rattle.plan.specs.Theorems.{FirstSundays, ChangesOnSundays, WeeksOfRows, FourthSunday, SpringBeforeAutumn, ChangesInYear, DaylightFollows, RowsFit, WordsReadBack, ThreeLengths, OneOtherLength, OtherLengthInLeapMinute, LeapMinuteExists, LeapMinuteLength, LeapStateOfMonth, SameInDay, SixtyInDay}
-use Rattle.plan.specs.Earlier.{LegalKinds, EarlierLaw, EarlierDates, EarlierStates, OwnRows, AsKind0From2007, ChangesOfYear, FirstDay, RowSent, OwnRowsSent, StatesOfKind0, StatesOfKinds1And2}
+use Rattle.plan.specs.Earlier.{LegalKinds, HoursOfRows, EarlierLaw, EarlierDates, EarlierStates, OwnRows, AsKind0From2007, ChangesOfYear, FirstDay, RowSent, OwnRowsSent, StatesOfKind0, StatesOfKinds1And2}
 use Rattle.plan.proofs.Follows.{daylight-follows}
 use Rattle.plan.proofs.Changes.{first-sundays, changes-on-sundays, weeks-of-rows, fourth-sunday, spring-before-autumn, changes-in-year, changes-of-year}
 use Rattle.plan.proofs.Rows.{rows-fit, words-read-back}
 use Rattle.plan.proofs.LeapMinute.{three-lengths, one-other-length, other-length-in-leap-minute, leap-minute-exists, leap-minute-length, leap-state-of-month}
-use Rattle.plan.proofs.Earlier.{legal-kinds, earlier-law, earlier-dates, own-rows}
+use Rattle.plan.proofs.Earlier.{legal-kinds, hours-of-rows, earlier-law, earlier-dates, own-rows}
 use Rattle.plan.proofs.EarlierStates.{earlier-states, first-day}
 use Rattle.plan.proofs.RowSent.{as-kind-0-from-2007, row-sent, own-rows-sent, states-of-kind-0, states-of-kinds-1-and-2}
 use Rattle.plan.proofs.Days.{same-in-day, sixty-in-day}
@@ -64,6 +64,9 @@ sixty-in-day′ = sixty-in-day
 
 legal-kinds′ : LegalKinds
 legal-kinds′ = legal-kinds
+
+hours-of-rows′ : HoursOfRows
+hours-of-rows′ = hours-of-rows
 
 earlier-law′ : EarlierLaw
 earlier-law′ = earlier-law

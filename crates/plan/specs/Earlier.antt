@@ -33,9 +33,15 @@ LegalKinds = (p : Plan) → (legalPlan (ofKind 3 p) ≡ legalPlan (ofKind 0 p)) 
 abbrev pub LastSunday : ℕ → ℕ → Type 0
 LastSunday end day = (day % 7 ≡ 1) × (day < end) × (end ≤ day + 7)
 
--- the hour of a row: the three groups of eight of its season, which begins at row first, change at 1, 2 and 3 o'clock
+-- the hour of a row of a season that begins at row first; the three groups of eight "change at 1, 2 and 3 o'clock local" (document 01,
+-- "Next-change word")
 abbrev pub changeHour : ℕ → ℕ → ℕ
 changeHour first row = 1 + (row - first) / 8
+
+abbrev pub HoursOfRows : Type 0
+HoursOfRows =
+    (group week : ℕ) → group < 3 → week < 8
+    → (changeHour 1 (1 + group * 8 + week) ≡ group + 1) × (changeHour 25 (25 + group * 8 + week) ≡ group + 1)
 
 -- as rows: 13 or 14, which falls on the first Sunday in April, and 36, which falls on the last Sunday in October; both at 2 o'clock
 abbrev pub EarlierLaw : Type 0
