@@ -243,8 +243,8 @@ static unsigned earlier_row(uint32_t year)
     return first_sunday(start + starts[3]) - first_sunday(start + starts[2]) == 28 ? 13 : 14;
 }
 
-/* The row by the daylight state. Without daylight time it is that of this year's spring, or after
-   June of next year's. */
+/* The row by the daylight state. Without daylight time it is that of this year's spring, or, after
+   June, that of next year's. */
 static unsigned row_of(const struct plan *p, unsigned daylight, const struct day *d)
 {
     uint32_t year = d->year + (d->month > 5);

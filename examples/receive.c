@@ -19,7 +19,7 @@
  *   any other refusal  no frame begins here, or none follows in order: drop one bit, try again
  *
  * A frame is handed out only beside another one in order. Alone it is weak: the bits inside frames
- * look like a frame here and there, even without noise. By wwvb_us_plan() that happens at 23,147
+ * look like a frame here and there, even without noise. With wwvb_us_plan() that happens at 23,147
  * places from 2000 to 2099, at 903 of them with place 0 (tests/starts.c).
  *
  * The last good frame stays in the buffer, so the library itself checks that the next minute is one

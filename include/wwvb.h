@@ -43,9 +43,10 @@
 /*
  * The version. A break raises MAJOR, and with it the soname of the shared library (libwwvb.so.0).
  * A break is another size or layout of an entry or a reply, another number for a refusal, another
- * signature of a call, or another answer of a call. Added calls, names, kinds of plan and refusals
- * of added calls raise MINOR, and so do fields added to the end of wwvb_plan or wwvb_entry. The
- * library itself takes neither, so it is enough to compile again. Anything else raises PATCH.
+ * signature of a call, or another answer of a call. An added kind of plan, which was refused before,
+ * is not a break. Added calls, names, kinds of plan and refusals of added calls raise MINOR, and so
+ * do fields added to the end of wwvb_plan or wwvb_entry. The library itself takes neither, so it is
+ * enough to compile again. Anything else raises PATCH.
  */
 #define WWVB_VERSION_MAJOR 0
 #define WWVB_VERSION_MINOR 6
@@ -312,8 +313,9 @@ WWVB_MUST_USE wwvb_date_reply wwvb_local_date(uint32_t minute, uint32_t state, i
  *   leap_sign   -1, 0 or +1
  *   notice      0 or 1
  * With WWVB_KIND_EARLIER_LAW (3), daylight time up to 2006 is from the first Sunday in April to
- * the last Sunday in October, at 2 o'clock. The rows sent for these changes are 13 or 14, and 36.
- * The plan's own spring row is sent from the last change of 2006 on.
+ * the last Sunday in October, at 2 o'clock local. The rows sent for these changes are 13 or 14, and
+ * 36. The plan's own spring row is sent from 2006-10-29 00:00 UTC on. Its rows are needed even if
+ * all minutes are before that.
  * Refusals: WWVB_ILLEGAL_PLAN (1), WWVB_BAD_COUNT (2), WWVB_MINUTE_TOO_LARGE (3) for the last
  * minute, WWVB_NO_BIT_SPACE (4). A refused writing does not report how many bytes it needs; an
  * `out_length` of WWVB_MAX_RECORDING is always enough.
@@ -509,8 +511,8 @@ WWVB_MUST_USE static inline wwvb_entry wwvb_entry_at(const uint8_t *entries, siz
  * state.
  * On the day of a change the row is that of the change after today's. So the hour is right if both
  * changes of a year come at the same hour, as in the United States. With WWVB_KIND_EARLIER_LAW the
- * row of 2006-10-29 is the plan's own spring row, so there that row has to be of 2 o'clock too.
- * Where the hours differ, keep the row of the day before and call wwvb_local_date with its hour.
+ * row of 2006-10-29 is the plan's own spring row. On that day the hour is right only if that row is
+ * one for 2 o'clock. Where the hours differ, keep the row of the day before and call wwvb_local_date with its hour.
  */
 WWVB_MUST_USE static inline wwvb_date_reply wwvb_entry_local_date(const wwvb_entry *entry,
                                                                   int32_t offset)

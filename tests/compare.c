@@ -842,8 +842,21 @@ static int is_sunday(const wwvb_date_reply *d, uint32_t month, uint32_t from)
     return d->weekday == 1 && d->month == month && d->day >= from && d->day < from + 7;
 }
 
-/* A local clock through a year, by a plan of the United States of kind 0 or 3: minute by minute it
-   moves by one, but for one hour forward and one back, each on its Sunday. */
+/* The daylight state of the frame of a minute, as the library writes and reads it. */
+static uint32_t state_sent(const struct ref_plan *p, uint32_t minute)
+{
+    uint8_t frame[WWVB_MAX_FRAME], entry[WWVB_ENTRY_SIZE];
+    wwvb_write_reply w = wwvb_write_recording(p->kind, p->spring, p->autumn, p->leap_month,
+                                              p->leap_sign, p->notice, minute, 1, frame,
+                                              sizeof frame);
+
+    if (w.refusal != 0 || wwvb_read_frame(frame, w.bits, entry, sizeof entry) != 0)
+        fail(WRITE, "a frame of the clock");
+    return entry[WWVB_ENTRY_DAYLIGHT];
+}
+
+/* A local clock through a year, by the frames of a plan of the United States of kind 0 or 3: minute
+   by minute it moves by one, but for one hour forward and one back, each on its Sunday. */
 static void boundary_clock(uint32_t kind, int32_t offset, uint32_t hour, uint32_t year)
 {
     struct ref_plan p = {0, 10, 37, 0, 0, 0};
@@ -862,7 +875,7 @@ static void boundary_clock(uint32_t kind, int32_t offset, uint32_t hour, uint32_
     if (ref_date_to_minute(&d, &last) != 0)
         last = MINUTES;
     for (t = first; t < last; t++) {
-        wwvb_date_reply r = wwvb_local_date(t, ref_daylight(&p, t), offset, hour);
+        wwvb_date_reply r = wwvb_local_date(t, state_sent(&p, t), offset, hour);
         struct ref_date local = {r.year, r.month, r.day, r.hour, r.minute, 0};
         uint32_t clock = 0;
         int64_t now;
@@ -940,8 +953,8 @@ static void boundary_changes(void)
         }
 }
 
-/* Kind 3 by pairs of own rows: each day of 2000 to 2008, from the minute before it, in both codes;
-   and the first and the last minutes of all. */
+/* Kind 3 by pairs of own rows: each day of 2000 to 2008, from the minute before it, and Saturdays
+   to Mondays in the amplitude code too; and the first and the last minutes of all. */
 static void boundary_earlier_law(void)
 {
     struct ref_plan p = {3, 0, 0, 0, 0, 0};
@@ -949,7 +962,7 @@ static void boundary_earlier_law(void)
 
     for (row = 0; row < 24; row++) {
         p.spring = 1 + row;
-        p.autumn = row % 2 ? 25 + row : 48 - row;
+        p.autumn = 48 - row;
         p.notice = row % 2;
         try_write(&p, 0, 2, 120);
         try_write(&p, MINUTES - 2, 2, 120);
@@ -1211,7 +1224,7 @@ static void try_half(const struct ref_plan *p, uint32_t first, struct pair_half 
         fail(READ, "the entries as sent");
 }
 
-/* Two recordings by plans of each two kinds, with other first minutes: at each rank the frames
+/* Two recordings by plans of every pair of kinds, with different first minutes: at each rank the frames
    differ in three places or more as written, and are not equal as received. */
 static void boundary_pairs(void)
 {

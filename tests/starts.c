@@ -1,8 +1,8 @@
 /*
  * Where a frame can be read that is none, in recordings without an inverted bit: at bits that are
- * not a frame's first. All minutes by both plans of the United States are tried. It pins the
- * numbers that examples/receive.c and wwvb(3) give for its rule: two frames in order, one with
- * place 0.
+ * not a frame's first. All minutes by both plans of the United States are tried; from 2007 on both
+ * send the same, and are tried once. It pins the numbers that examples/receive.c and wwvb(3) give
+ * for its rule: two frames in order, one with place 0.
  */
 #include "wwvb.h"
 

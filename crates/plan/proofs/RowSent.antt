@@ -1,7 +1,7 @@
 -- The states and the rows that each kind sends.
 -- Assumes nothing.
 use Prim.Native.Nat.{ℕ, suc, _+_, _/_, _≤_, _<_}
-use mathlib.Core.Bool.{Bool, true, false, and-false}
+use mathlib.Core.Bool.{Bool, true, false, and-false, false≢true}
 use mathlib.Core.Logic.{inl, inr}
 use mathlib.Core.Path.{_≡_, refl, sym, ap, _∙_}
 use native.Mathlib.Decide.{ℕ-discrete, decLt}
@@ -14,7 +14,9 @@ use Rattle.gregorian.specs.declared.Place.{Place}
 use Rattle.gregorian.proofs.Walk.{before-mono}
 use Rattle.gregorian.proofs.Months.{Placed, placed, year-place}
 use Rattle.calendar.specs.Calendar.{minuteCount, dateFrom, dateAt}
+use Rattle.codewords.specs.CodeWords.{daylightNumber}
 use Rattle.codewords.specs.declared.DaylightState.{DaylightState}
+use Rattle.codewords.specs.declared.DaylightState.the-variants.{Standard, Begins, Daylight, Ends}
 use Rattle.plan.specs.Plan.{daylightOf, hasChanges, springDay, autumnDay, isEarlier, springRow, autumnRow, within, changing, springDayOf, autumnDayOf, daylightAt, nextRow, springYear, rowOn, rowFor, rowAt}
 use Rattle.plan.specs.Earlier.{ofKind, AsKind0From2007, RowSent, OwnRowsSent, StatesOfKind0, StatesOfKinds1And2}
 use Rattle.plan.specs.declared.Plan.{Plan}
@@ -27,6 +29,18 @@ picks spring autumn true true = refl
 picks spring autumn true false = refl
 picks spring autumn false true = refl
 picks spring autumn false false = refl
+
+pub next-on : (spring autumn : ℕ) (d : DaylightState) → leb 2 (daylightNumber d) ≡ true → nextRow spring autumn d ≡ autumn
+next-on spring autumn Standard h = absurd (false≢true h)
+next-on spring autumn Ends h = absurd (false≢true h)
+next-on spring autumn Begins h = refl
+next-on spring autumn Daylight h = refl
+
+pub next-off : (spring autumn : ℕ) (d : DaylightState) → leb 2 (daylightNumber d) ≡ false → nextRow spring autumn d ≡ spring
+next-off spring autumn Standard h = refl
+next-off spring autumn Ends h = refl
+next-off spring autumn Begins h = absurd (false≢true (sym h))
+next-off spring autumn Daylight h = absurd (false≢true (sym h))
 
 module _ (p : Plan) (t y : ℕ) (c : hasChanges (p .kind) ≡ true) (e : yearOfDay (t / 1440) .index ≡ y) where
   abbrev on : Bool
