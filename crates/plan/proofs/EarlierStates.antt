@@ -19,7 +19,7 @@ use Rattle.plan.specs.Plan.{hasChanges, marchSunday, springDay, autumnDa
 use Rattle.plan.specs.Earlier.{LastSunday, fromAprilSunday, beforeOctoberSunday, EarlierStates, FirstDay}
 use Rattle.plan.specs.Theorems.{FirstSunday}
 use Rattle.plan.specs.declared.Plan.{Plan}
-use Rattle.plan.proofs.Laws.{sunday, month-starts}
+use Rattle.plan.proofs.Laws.{year-of, sunday, month-starts}
 use Rattle.plan.proofs.Follows.{high-bit}
 use Rattle.plan.proofs.Earlier.{with-changes, earlier-law}
 
@@ -75,7 +75,12 @@ module _ (y day month rest : ℕ) (low : monthStart y month + rest ≡ day) (hig
                   let last : LastSunday (monthStart y 9 + 31) sunday = subst (λ (n : ℕ). LastSunday n sunday) (month-starts y .2) l in
                   rw (le-ltb (month + 1) 10 (omega arith), eq-eqb (month + 1) 10 (omega arith))
                   (before-last-sunday (monthStart y 9) sunday day rest last (omega (arith, same)) (omega (arith, same, end, month-starts y .2)))
-              | no n ↦ rw (le-ltb day sunday (omega (arith, l .1, start-mono y 10 month (omega arith))), le-ltb (month + 1) 10 (omega arith), ne-eqb (month + 1) 10 (λ e. omega arith))
+              | no n ↦
+                  rw (
+                    le-ltb day sunday (omega (arith, l .1, start-mono y 10 month (omega arith))),
+                    le-ltb (month + 1) 10 (omega arith),
+                    ne-eqb (month + 1) 10 (λ e. omega arith),
+                  )
             ]
       ]
 
@@ -109,10 +114,6 @@ on-between : (p : Plan) (t y : ℕ) → hasChanges (p .kind) ≡ true → yearOf
 unfolding daylightAt changing within
 on-between p t y c e =
     rw (c, e) (high-bit (within (springDayOf p y) (autumnDayOf p y) (t / 1440)) (within (springDayOf p y + 1) (autumnDayOf p y + 1) (t / 1440)))
-
-year-of : (t : ℕ) → firstYear + yearOfDay (t / 1440) .index ≡ dateAt t .year
-unfolding dateAt dateFrom
-year-of t = refl
 
 pub earlier-states : EarlierStates
 unfolding springDayOf autumnDayOf

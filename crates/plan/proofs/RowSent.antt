@@ -13,13 +13,14 @@ use Rattle.gregorian.specs.Gregorian.{firstYear, yearLengths, yearOfDay}
 use Rattle.gregorian.specs.declared.Place.{Place}
 use Rattle.gregorian.proofs.Walk.{before-mono}
 use Rattle.gregorian.proofs.Months.{Placed, placed, year-place}
-use Rattle.calendar.specs.Calendar.{minuteCount, dateFrom, dateAt}
+use Rattle.calendar.specs.Calendar.{minuteCount}
 use Rattle.codewords.specs.CodeWords.{daylightNumber}
 use Rattle.codewords.specs.declared.DaylightState.{DaylightState}
 use Rattle.codewords.specs.declared.DaylightState.the-variants.{Standard, Begins, Daylight, Ends}
 use Rattle.plan.specs.Plan.{daylightOf, hasChanges, springDay, autumnDay, isEarlier, springRow, autumnRow, within, changing, springDayOf, autumnDayOf, daylightAt, nextRow, springYear, rowOn, rowFor, rowAt}
 use Rattle.plan.specs.Earlier.{ofKind, AsKind0From2007, RowSent, OwnRowsSent, StatesOfKind0, StatesOfKinds1And2}
 use Rattle.plan.specs.declared.Plan.{Plan}
+use Rattle.plan.proofs.Laws.{year-of}
 use Rattle.plan.proofs.Follows.{spring-of-late, changes-in-order}
 use Rattle.plan.proofs.Earlier.{with-changes, own-days, not-earlier, own-rows}
 
@@ -124,10 +125,6 @@ module _ (p : Plan) (t y : ℕ) (k : p .kind ≡ 3) (e : yearOfDay (t / 1440) .i
   row-from-2007 =
       let next = own (springYear p y (t / 1440)) (year-or-next p y (t / 1440)) .0 in
       own-row p t y (with-changes p (inr k)) e (own y (omega arith) .1) next (daylightAt p t)
-
-year-of : (t : ℕ) → dateAt t .year ≡ firstYear + yearOfDay (t / 1440) .index
-unfolding dateAt dateFrom
-year-of t = refl
 
 pub as-kind-0-from-2007 : AsKind0From2007
 as-kind-0-from-2007 p t late =

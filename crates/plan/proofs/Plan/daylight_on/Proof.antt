@@ -52,8 +52,10 @@ changing-on-requires c κs = (
 
 changing-on-requires-2 : tie.Need-changing-on-requires-2
 changing-on-requires-2 c κs =
-    let a = c .before .before .before .before .args in
-    (rw (c .before .spring-day .ensures) (spring-small (a .self .spring) (a .years) (omega arith)), rw (c .autumn-day2 .ensures) (autumn-small (a .self .autumn) (a .years) (omega arith)))
+    let a = c .before .before .before .before .args in (
+      rw (c .before .spring-day .ensures) (spring-small (a .self .spring) (a .years) (omega arith)),
+      rw (c .autumn-day2 .ensures) (autumn-small (a .self .autumn) (a .years) (omega arith)),
+    )
 
 returns : tie.Need-returns
 returns c =
