@@ -21,8 +21,9 @@
 #define FRAMES 10000u
 
 static const struct codec library = {
-    "library", wwvb_write_recording, wwvb_read_recording, wwvb_minute_to_date, wwvb_minute_to_date, wwvb_date_to_minute,
-    wwvb_local_date, wwvb_write_amplitude, wwvb_write_amplitude, wwvb_read_amplitude, wwvb_read_amplitude,
+    "library", wwvb_write_recording, wwvb_read_frame, wwvb_read_recording, wwvb_minute_to_date,
+    wwvb_minute_to_date, wwvb_date_to_minute, wwvb_local_date, wwvb_write_amplitude,
+    wwvb_write_amplitude, wwvb_read_amplitude, wwvb_read_amplitude,
 };
 
 #define CODEC(name) extern const struct codec name;
@@ -59,12 +60,28 @@ static int32_t leap_sign;
 static size_t write_frames(const struct codec *c, uint32_t n)
 {
     uint32_t done, minute = first_minute;
-    wwvb_write_reply (*call)(uint32_t, uint32_t, uint32_t, uint32_t, int32_t, uint32_t, uint32_t, uint32_t, uint8_t *,
-                             size_t) = c->write_recording;
+    write_recording_call *call = c->write_recording;
 
     for (done = 0; done < FRAMES; done += n, minute += n) {
-        wwvb_write_reply r = call(kind, 10, 37, leap_month, leap_sign, 0, minute, n, bits[0],
-                                  sizeof bits[0]);
+        wwvb_write_reply r = call(kind, 10, 37, leap_month, leap_sign, 0, NULL, 0, minute, n,
+                                  bits[0], sizeof bits[0]);
+        sink += (uint32_t)r.bits + r.refusal;
+    }
+    return done;
+}
+
+/* The messages of a plan, as the calls take them. */
+static uint8_t messages[WWVB_MAX_MESSAGES * WWVB_MESSAGE_SIZE];
+
+/* The same recording each time, with all four messages in it. */
+static size_t write_messages(const struct codec *c, uint32_t n)
+{
+    uint32_t done;
+    write_recording_call *call = c->write_recording;
+
+    for (done = 0; done < FRAMES; done += n) {
+        wwvb_write_reply r = call(kind, 10, 37, leap_month, leap_sign, 0, messages,
+                                  sizeof messages, first_minute, n, bits[0], sizeof bits[0]);
         sink += (uint32_t)r.bits + r.refusal;
     }
     return done;
@@ -80,6 +97,17 @@ static size_t read_frames(const struct codec *c, uint32_t n)
         sink += (uint32_t)r.used + r.refusal;
     }
     return done;
+}
+
+static size_t read_alone(const struct codec *c, uint32_t n)
+{
+    uint32_t i;
+    uint32_t (*call)(const uint8_t *, size_t, uint8_t *, size_t) = c->read_frame;
+
+    (void)n;
+    for (i = 0; i < FRAMES; i++)
+        sink += call(input, 60, entries[0], WWVB_ENTRY_SIZE) + entries[0][3];
+    return FRAMES;
 }
 
 /* The dates and minutes that are turned into each other, and how to show them as local dates, made beforehand. */
@@ -169,8 +197,8 @@ static uint8_t symbols[2][WWVB_MAX_FRAME + 1];
 
 static wwvb_write_reply write_minute(write_amplitude_call *call, const struct writing *w, uint8_t *out)
 {
-    return call(w->kind, w->spring, w->autumn, w->leap_month, w->leap_sign, w->notice, w->minute, w->ut1_sign,
-                w->ut1_tenths, out, w->space);
+    return call(w->kind, w->spring, w->autumn, w->leap_month, w->leap_sign, w->notice, NULL, 0,
+                w->minute, w->ut1_sign, w->ut1_tenths, out, w->space);
 }
 
 /* The minutes that are written are those above, each with other UT1. */
@@ -304,23 +332,30 @@ static uint32_t autumn_of(uint32_t of_kind)
     return of_kind == 0 || of_kind == 3 ? 37 : 0;
 }
 
-/* Writes by each codec, the library first, to `input`. */
-static void write_all(uint32_t of_kind, uint32_t month, int32_t sign, uint32_t minute, uint32_t n)
+/* Writes by each codec, the library first, to `input`, with so many bytes of messages. */
+static void write_all_with(size_t length, uint32_t of_kind, uint32_t month, int32_t sign,
+                           uint32_t minute, uint32_t n)
 {
     size_t k;
 
     for (k = 0; k < CODECS; k++) {
         uint8_t *out = memset(bits[k > 0], 0, sizeof bits[0]);
         wwvb_write_reply r = codecs[k]->write_recording(of_kind, spring_of(of_kind),
-                                                        autumn_of(of_kind), month, sign, 0, minute,
-                                                        n, out, sizeof bits[0]);
+                                                        autumn_of(of_kind), month, sign, 0,
+                                                        messages, length, minute, n, out,
+                                                        sizeof bits[0]);
         if (r.refusal || r.bits != n * 60 || memcmp(bits[0], out, sizeof bits[0]))
             differ(codecs[k], "writing");
     }
     memcpy(input, bits[0], sizeof input);
 }
 
-/* Reads `input` by each codec. */
+static void write_all(uint32_t of_kind, uint32_t month, int32_t sign, uint32_t minute, uint32_t n)
+{
+    write_all_with(0, of_kind, month, sign, minute, n);
+}
+
+/* Reads `input` by each codec, and its first frame alone. */
 static void read_all(uint32_t n)
 {
     size_t k;
@@ -328,8 +363,116 @@ static void read_all(uint32_t n)
     memset(entries, 0, sizeof entries);
     for (k = 0; k < CODECS; k++) {
         wwvb_read_reply r = codecs[k]->read_recording(input, n * 60, entries[k > 0], sizeof entries[0]);
+        uint8_t alone[WWVB_ENTRY_SIZE];
+
         if (r.refusal || r.entries != n || r.used != n * 60 || memcmp(entries[0], entries[k > 0], sizeof entries[0]))
             differ(codecs[k], "reading");
+        if (codecs[k]->read_frame(input, 60, alone, sizeof alone)
+            || memcmp(alone, entries[0], sizeof alone))
+            differ(codecs[k], "reading a frame alone");
+    }
+}
+
+/* The messages of four minutes. */
+static void set_messages(const uint32_t minutes[WWVB_MAX_MESSAGES])
+{
+    wwvb_plan plan = wwvb_us_plan();
+    uint32_t i;
+
+    plan.message_count = WWVB_MAX_MESSAGES;
+    for (i = 0; i < WWVB_MAX_MESSAGES; i++) {
+        plan.messages[i].minute = minutes[i];
+        plan.messages[i].data = 0x123456789abu * (uint64_t)(i + 1) % WWVB_DATA_LIMIT;
+    }
+    if (wwvb_message_bytes(&plan, messages) != sizeof messages)
+        differ(&library, "messages as bytes");
+}
+
+/* Bits read by each codec, refused or not. */
+static void read_any(size_t length)
+{
+    wwvb_read_reply r[2];
+    size_t k, space = 8 * WWVB_ENTRY_SIZE;
+
+    memset(entries, 0, sizeof entries);
+    for (k = 0; k < CODECS; k++) {
+        size_t j = k > 0;
+
+        r[j] = codecs[k]->read_recording(input, length, entries[j], space);
+        if (memcmp(&r[0], &r[j], sizeof r[0]) || memcmp(entries[0], entries[j], space))
+            differ(codecs[k], "reading messages");
+    }
+}
+
+/* Six minutes by each codec, to `input`, with so many bytes of messages and a leap second of a
+   sign in a month; gives the number of bits. */
+static size_t write_six(size_t length, uint32_t month, int32_t sign, uint32_t minute)
+{
+    wwvb_write_reply r[2];
+    size_t k;
+
+    for (k = 0; k < CODECS; k++) {
+        size_t j = k > 0;
+
+        memset(bits[j], 9, 400);
+        r[j] = codecs[k]->write_recording(0, 10, 37, sign ? month : 0, sign, 1, messages, length,
+                                          minute, 6, bits[j], sizeof bits[j]);
+        if (r[j].refusal || r[j].bits != r[0].bits || memcmp(bits[0], bits[j], 400))
+            differ(codecs[k], "writing messages");
+    }
+    memcpy(input, bits[0], 400);
+    return r[0].bits;
+}
+
+/* Messages by each codec: minutes about the end of months with a leap second of each sign and
+   without, written, read, and read with each bit inverted. */
+static void messages_all(void)
+{
+    uint32_t month, next, k, i, minutes[WWVB_MAX_MESSAGES];
+
+    for (month = 0; month < 1199; month += 11)
+        for (k = 0; k < 12; k++) {
+            size_t length;
+
+            next = month + 1;
+            minutes[0] = wwvb_date_to_minute(2000 + next / 12, 1 + next % 12, 1, 0, 0).minute - 3;
+            for (i = 1; i < WWVB_MAX_MESSAGES; i++)
+                minutes[i] = minutes[0] + k / 3 + i;
+            set_messages(minutes);
+            length = write_six(k % 5 * 10, month, (int32_t)(k % 3) - 1, minutes[0] - k % 2);
+            read_any(length);
+            for (i = 0; i < length; i++) {
+                input[i] ^= 1;
+                read_any(length);
+                input[i] ^= 1;
+            }
+        }
+}
+
+/* Bytes that are no messages by each codec, in both codes. */
+static void refused_messages_all(void)
+{
+    static const uint32_t minutes[WWVB_MAX_MESSAGES] = {7, 8, 9, WWVB_MINUTES - 1};
+    uint8_t bytes[2 * sizeof messages];
+    size_t length, k, i;
+
+    set_messages(minutes);
+    for (i = 0; i < 4 * sizeof messages; i++) {
+        memset(bytes, 0, sizeof bytes);
+        memcpy(bytes, messages, sizeof messages);
+        bytes[i / 4] = (uint8_t)(i % 4 * 85);
+        for (length = 30; length <= sizeof bytes; length += i ? 10 : 1)
+            for (k = 0; k < CODECS; k++) {
+                const struct codec *c = codecs[k];
+                wwvb_write_reply a, b, first;
+
+                first = library.write_recording(1, 0, 0, 0, 0, 0, bytes, length, 0, 1, bits[0],
+                                                60);
+                a = c->write_recording(1, 0, 0, 0, 0, 0, bytes, length, 0, 1, bits[1], 60);
+                b = c->write_amplitude(1, 0, 0, 0, 0, 0, bytes, length, 0, 1, 0, symbols[0], 60);
+                if (a.refusal != first.refusal || b.refusal != first.refusal)
+                    differ(c, "messages that are refused");
+            }
     }
 }
 
@@ -518,6 +661,17 @@ static void earlier_law_all(void)
     }
 }
 
+/* A recording of 1,000 frames with four messages, the second frame the first of them. */
+static void write_four_messages(void)
+{
+    uint32_t minutes[WWVB_MAX_MESSAGES], i;
+
+    for (i = 0; i < WWVB_MAX_MESSAGES; i++)
+        minutes[i] = first_minute + 1 + 332 * i;
+    set_messages(minutes);
+    write_all_with(sizeof messages, kind, leap_month, leap_sign, first_minute, 1000);
+}
+
 /* What is read: the plan's kind, its leap month and sign, the first minute, and whether one bit of each frame is inverted. */
 static const struct {
     const char *what;
@@ -561,6 +715,13 @@ int main(void)
     write_all(kind, leap_month, leap_sign, first_minute, 1000);
     measure("written, kind 3 in 2003", write_frames, 1);
 
+    messages_all();
+    refused_messages_all();
+    kind = 0;
+    first_minute = 6412320 - 20000;
+    write_four_messages();
+    measure("written, four messages", write_messages, 1000);
+
     for (k = 0; k < 4; k++) {
         write_all(readings[k].kind, readings[k].month, readings[k].sign, readings[k].minute, 1000);
         for (f = 0; f < 1000 && readings[k].inverted; f++)
@@ -570,7 +731,12 @@ int main(void)
         if (k == 0)
             measure(readings[k].what, read_frames, 10);
         measure(readings[k].what, read_frames, 1000);
+        if (k == 0)
+            measure("frame read alone", read_alone, 0);
     }
+    write_four_messages();
+    read_all(1000);
+    measure("read, four messages", read_frames, 1000);
 
     prepare_dates();
     date_all();

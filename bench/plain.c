@@ -1,8 +1,10 @@
 /*
  * Straightforward code: parity by masks and the compiler's parity of a word, correction by a table of syndromes, code
  * words by tables and their inverses, bits moved one at a time, the calendar by cycles of four years, and the plan
- * asked anew for each frame. In the amplitude code one table has what each second is, and symbols are checked and
- * moved one at a time. The functions fast_.. are other versions, written for speed alone, with rows of their own.
+ * asked anew for each frame. The writer keeps the next message, and the reader the last leap
+ * state. In the amplitude code one table has what each second is, and symbols are checked and moved
+ * one at a time. The functions fast_.. are other versions, written for speed alone, with rows of
+ * their own.
  *
  * PLAIN names the codec that this file makes and PLAIN_LABEL is its column's heading, so that one program can hold it
  * several times, each built by another compiler or with other flags.
@@ -11,12 +13,19 @@
 
 #include <string.h>
 
-#define SYNC 0x768u /* 0011101101000 */
+#define SYNC 0x768u          /* 0011101101000 */
+#define MESSAGE_SYNC 0x1a3au /* 1101000111010 */
 
 struct plan {
     uint32_t kind, spring, autumn, leap_month;
     int32_t leap_sign;
     uint32_t notice;
+};
+
+/* The messages of a plan, and after the last one a minute that no frame has. */
+struct messages {
+    uint32_t minute[WWVB_MAX_MESSAGES + 1];
+    uint64_t data[WWVB_MAX_MESSAGES];
 };
 
 /* ---- dates; every fourth year of 2000 to 2099 is a leap year */
@@ -201,6 +210,33 @@ static int is_legal(const struct plan *p)
     return p->notice <= 1;
 }
 
+static uint64_t number_in(const uint8_t *bytes, int n)
+{
+    uint64_t number = 0;
+
+    while (n--)
+        number = number << 8 | *bytes++;
+    return number;
+}
+
+/* Takes the messages from their bytes; gives whether they are legal. */
+static int take_messages(const uint8_t *bytes, size_t length, struct messages *m)
+{
+    size_t i, n = length / WWVB_MESSAGE_SIZE;
+
+    if (n > WWVB_MAX_MESSAGES || n * WWVB_MESSAGE_SIZE != length)
+        return 0;
+    for (i = 0; i < n; i++, bytes += WWVB_MESSAGE_SIZE) {
+        m->minute[i] = (uint32_t)number_in(bytes, 4);
+        m->data[i] = number_in(bytes + 4, 6);
+        if (m->minute[i] >= WWVB_MINUTES || m->data[i] >= WWVB_DATA_LIMIT
+            || (i > 0 && m->minute[i] <= m->minute[i - 1]))
+            return 0;
+    }
+    m->minute[n] = WWVB_MINUTES;
+    return 1;
+}
+
 static uint32_t first_sunday(uint32_t day)
 {
     return day + (8 - day % 7) % 7;
@@ -308,16 +344,38 @@ static size_t write_frame(const struct plan *p, uint32_t minute, uint8_t *out)
     return length;
 }
 
-static wwvb_write_reply write_recording(uint32_t kind, uint32_t spring, uint32_t autumn, uint32_t leap_month,
-                                        int32_t leap_sign, uint32_t notice, uint32_t first, uint32_t count,
-                                        uint8_t *out, size_t out_length)
+static size_t write_message(const struct plan *p, uint32_t minute, uint64_t data, uint8_t *out)
+{
+    struct day d = day_at(minute / 1440);
+    unsigned length = length_of(leap_of(p, &d), minute, &d);
+
+    out = put(out, MESSAGE_SYNC, 13);
+    out = put(out, (uint32_t)(data >> 36), 6);
+    out = put(out, minute & 1, 1);
+    out = put(out, (uint32_t)(data >> 27), 9);
+    *out++ = 0;
+    out = put(out, (uint32_t)(data >> 18), 9);
+    *out++ = 0;
+    out = put(out, (uint32_t)(data >> 9), 9);
+    *out++ = (uint8_t)p->notice;
+    out = put(out, (uint32_t)data, 9);
+    put(out, 0, (int)length - 59);
+    return length;
+}
+
+static wwvb_write_reply write_recording(uint32_t kind, uint32_t spring, uint32_t autumn,
+                                        uint32_t leap_month, int32_t leap_sign, uint32_t notice,
+                                        const uint8_t *messages, size_t messages_length,
+                                        uint32_t first, uint32_t count, uint8_t *out,
+                                        size_t out_length)
 {
     struct plan p = {kind, spring, autumn, leap_month, leap_sign, notice};
+    struct messages m;
     wwvb_write_reply r = {0, 0};
-    size_t needed = 0;
+    size_t needed = 0, next = 0;
     uint32_t i;
 
-    if (!is_legal(&p))
+    if (!is_legal(&p) || !take_messages(messages, messages_length, &m))
         r.refusal = WWVB_ILLEGAL_PLAN;
     else if (count < 1 || count > WWVB_MAX_COUNT)
         r.refusal = WWVB_BAD_COUNT;
@@ -333,8 +391,14 @@ static wwvb_write_reply write_recording(uint32_t kind, uint32_t spring, uint32_t
         r.refusal = WWVB_NO_BIT_SPACE;
         return r;
     }
-    for (i = 0; i < count; i++)
-        out += write_frame(&p, first + i, out);
+    while (m.minute[next] < first)
+        next++;
+    for (i = 0; i < count; i++) {
+        if (first + i == m.minute[next])
+            out += write_message(&p, first + i, m.data[next++], out);
+        else
+            out += write_frame(&p, first + i, out);
+    }
     r.bits = needed;
     return r;
 }
@@ -350,9 +414,78 @@ static uint32_t get(const uint8_t *bits, int n)
     return value;
 }
 
-static unsigned read_frame(const uint8_t *f, size_t left, uint8_t *entry, uint32_t due, int any)
+/* What is known before a frame: whether there was one, the minute expected, and of the last time
+   frame the leap state and the minute. */
+struct due {
+    int begun;
+    uint32_t minute;
+    unsigned leap;
+    uint32_t told;
+};
+
+static int has_length(const uint8_t *f, size_t left, int alone, unsigned length)
 {
-    uint32_t word, minute;
+    if (alone ? left != length : left < length)
+        return 0;
+    return (length < 60 || f[59] == 0) && (length < 61 || f[60] == 0);
+}
+
+static void put_entry(uint8_t *entry, uint32_t minute, unsigned length, unsigned notice)
+{
+    entry[0] = (uint8_t)(minute >> 24);
+    entry[1] = (uint8_t)(minute >> 16);
+    entry[2] = (uint8_t)(minute >> 8);
+    entry[3] = (uint8_t)minute;
+    entry[4] = (uint8_t)length;
+    entry[8] = (uint8_t)notice;
+}
+
+/* The length of a message by the leap state of its month, or 0 if it is not known. */
+static unsigned message_length(const struct due *due)
+{
+    struct day d = day_at(due->minute / 1440), told = day_at(due->told / 1440);
+
+    if (!ends_month(due->minute, &d))
+        return 60;
+    if (d.year != told.year || d.month != told.month)
+        return 0;
+    return length_of(due->leap, due->minute, &d);
+}
+
+static unsigned read_message(const uint8_t *f, size_t left, uint8_t *entry, struct due *due)
+{
+    uint32_t minute = due->minute;
+    unsigned length = 60;
+    uint64_t data;
+    int i;
+
+    if (!due->begun)
+        return WWVB_FIRST_MESSAGE;
+    if (minute % 1440 == 1439)
+        length = message_length(due);
+    if (length == 0)
+        return WWVB_UNKNOWN_LENGTH;
+    if (minute >= WWVB_MINUTES)
+        return WWVB_BAD_MINUTE;
+    if (!has_length(f, left, 0, length))
+        return WWVB_BAD_LENGTH;
+    if (f[19] != (minute & 1))
+        return WWVB_OUT_OF_ORDER;
+    data = (uint64_t)get(f + 13, 6) << 36 | (uint64_t)get(f + 20, 9) << 27 | get(f + 30, 9) << 18
+        | get(f + 40, 9) << 9 | get(f + 50, 9);
+    put_entry(entry, minute, length, f[49]);
+    entry[5] = entry[6] = entry[7] = entry[9] = 0;
+    entry[10] = entry[11] = 1;
+    for (i = 17; i >= 12; i--, data >>= 8)
+        entry[i] = (uint8_t)data;
+    due->minute = minute + 1;
+    return WWVB_OK;
+}
+
+static unsigned read_next(const uint8_t *f, size_t left, int alone, uint8_t *entry,
+                          struct due *due)
+{
+    uint32_t word, minute, sync;
     unsigned i, state, row, place, length = 60;
 
     if (left < 59)
@@ -360,7 +493,10 @@ static unsigned read_frame(const uint8_t *f, size_t left, uint8_t *entry, uint32
     for (i = 0; i < 59; i++)
         if (f[i] > 1)
             return WWVB_NOT_BITS;
-    if (get(f, 13) != SYNC)
+    sync = get(f, 13);
+    if (sync == MESSAGE_SYNC)
+        return read_message(f, left, entry, due);
+    if (sync != SYNC)
         return WWVB_BAD_SYNC;
     state = state_of_word[get(f + 47, 2) << 3 | get(f + 50, 3)];
     if (state > 11)
@@ -379,32 +515,40 @@ static unsigned read_frame(const uint8_t *f, size_t left, uint8_t *entry, uint32
         struct day d = day_at(minute / 1440);
         length = length_of(state / 4, minute, &d);
     }
-    if (left < length)
+    if (!has_length(f, left, alone, length))
         return WWVB_BAD_LENGTH;
-    for (i = 59; i < length; i++)
-        if (f[i])
-            return WWVB_BAD_LENGTH;
-    if (!any && minute != due)
+    if (due->begun && minute != due->minute)
         return WWVB_OUT_OF_ORDER;
-    entry[0] = (uint8_t)(minute >> 24);
-    entry[1] = (uint8_t)(minute >> 16);
-    entry[2] = (uint8_t)(minute >> 8);
-    entry[3] = (uint8_t)minute;
-    entry[4] = (uint8_t)length;
+    put_entry(entry, minute, length, f[49]);
     entry[5] = state % 4;
     entry[6] = (uint8_t)(state / 4);
     entry[7] = (uint8_t)row;
-    entry[8] = f[49];
     entry[9] = (uint8_t)place;
     entry[10] = f[19] == (minute & 1);
-    entry[11] = 0;
+    memset(entry + 11, 0, 7);
+    due->begun = 1;
+    due->minute = minute + 1;
+    due->leap = state / 4;
+    due->told = minute;
     return WWVB_OK;
+}
+
+static uint32_t read_frame(const uint8_t *bits, size_t bits_length, uint8_t *entry,
+                           size_t entry_length)
+{
+    struct due due = {0, 0, 0, 0};
+
+    if (!ready)
+        fill_tables();
+    if (entry_length < WWVB_ENTRY_SIZE)
+        return WWVB_NO_ENTRY_SPACE;
+    return read_next(bits, bits_length, 1, entry, &due);
 }
 
 static wwvb_read_reply read_recording(const uint8_t *bits, size_t bits_length, uint8_t *entries, size_t entries_length)
 {
     wwvb_read_reply r = {0, 0, 0};
-    uint32_t due = 0;
+    struct due due = {0, 0, 0, 0};
 
     if (!ready)
         fill_tables();
@@ -415,10 +559,9 @@ static wwvb_read_reply read_recording(const uint8_t *bits, size_t bits_length, u
             r.refusal = WWVB_NO_ENTRY_SPACE;
             return r;
         }
-        r.refusal = read_frame(bits + r.used, bits_length - r.used, entry, due, r.entries == 0);
+        r.refusal = read_next(bits + r.used, bits_length - r.used, 0, entry, &due);
         if (r.refusal)
             return r;
-        due = ((uint32_t)entry[0] << 24 | (uint32_t)entry[1] << 16 | (uint32_t)entry[2] << 8 | entry[3]) + 1;
         r.used += entry[4];
         r.entries++;
     }
@@ -446,16 +589,18 @@ static const uint8_t seconds[61] = {
 
 static wwvb_write_reply write_amplitude(uint32_t kind, uint32_t spring, uint32_t autumn,
                                         uint32_t leap_month, int32_t leap_sign, uint32_t notice,
+                                        const uint8_t *messages, size_t messages_length,
                                         uint32_t minute, int32_t ut1_sign, uint32_t ut1_tenths,
                                         uint8_t *out, size_t out_length)
 {
     struct plan p = {kind, spring, autumn, leap_month, leap_sign, notice};
+    struct messages m;
     wwvb_write_reply r = {0, 0};
     struct day d;
     uint32_t day, hour, of_hour, of_year;
     unsigned leap, length, i;
 
-    if (!is_legal(&p))
+    if (!is_legal(&p) || !take_messages(messages, messages_length, &m))
         r.refusal = WWVB_ILLEGAL_PLAN;
     else if (minute >= WWVB_MINUTES)
         r.refusal = WWVB_MINUTE_TOO_LARGE;
@@ -579,16 +724,18 @@ static const uint8_t digits[16][4] = {
 
 static wwvb_write_reply fast_write_amplitude(uint32_t kind, uint32_t spring, uint32_t autumn,
                                              uint32_t leap_month, int32_t leap_sign, uint32_t notice,
+                                             const uint8_t *messages, size_t messages_length,
                                              uint32_t minute, int32_t ut1_sign, uint32_t ut1_tenths,
                                              uint8_t *out, size_t out_length)
 {
     struct plan p = {kind, spring, autumn, leap_month, leap_sign, notice};
+    struct messages m;
     wwvb_write_reply r = {0, 0};
     struct day d;
     uint32_t day, hour, rest, of_year;
     unsigned leap, length;
 
-    if (!is_legal(&p))
+    if (!is_legal(&p) || !take_messages(messages, messages_length, &m))
         r.refusal = WWVB_ILLEGAL_PLAN;
     else if (minute >= WWVB_MINUTES)
         r.refusal = WWVB_MINUTE_TOO_LARGE;
@@ -705,6 +852,7 @@ static wwvb_amplitude_reply fast_read_amplitude(const uint8_t *s, size_t length)
 }
 
 const struct codec PLAIN = {
-    PLAIN_LABEL, write_recording, read_recording, minute_to_date, fast_minute_to_date, date_to_minute, local_date,
-    write_amplitude, fast_write_amplitude, read_amplitude, fast_read_amplitude,
+    PLAIN_LABEL, write_recording, read_frame, read_recording, minute_to_date, fast_minute_to_date,
+    date_to_minute, local_date, write_amplitude, fast_write_amplitude, read_amplitude,
+    fast_read_amplitude,
 };

@@ -9,15 +9,17 @@
  *   fresh     a new order: send a truck
  *   not sure  hold the order and read again, with more minutes; never send a truck on it
  *
- * A pickup counts only if its recording was read completely and at least one of its frames has
- * place 0, that is, had nothing to repair. Two inverted bits of a time word look like one inverted
- * bit of another minute far away, and they are repaired to it. But two minutes' words differ in at
- * least three places, so such a frame never has place 0, and the minutes of a recording count up by
- * one. In a recording read completely from a frame's first bit, a false minute
- * takes two inverted time bits in every frame, and three in each frame with place 0.
+ * A pickup counts only if its recording was read completely and at least one of its time frames
+ * has place 0, that is, had nothing to repair. Two inverted bits of a time word look like one
+ * inverted bit of another minute far away, and they are repaired to it. But two minutes' words
+ * differ in at least three places, so such a frame never has place 0, and the minutes of a
+ * recording count up by one. In a recording read completely from a frame's first bit, a false
+ * minute takes two wrong time bits in every frame that is read as a time frame, and three in each
+ * of them with place 0. A message has place 0 too, but no time word: it tells no minute, and makes
+ * no pickup count.
  *
  * A pickup begins at a frame's first bit: the client's radio finds it as receive.c does, with two
- * frames in order.
+ * time frames in order, or more where others choose the data of messages.
  *
  * cc window.c $(pkg-config --cflags --libs wwvb) -o window
  */
@@ -52,12 +54,14 @@ static int minute_of(const struct pickup *p, uint32_t *minute, const char **why)
         return 0;
     }
     for (i = 0; i < r.entries; i++) {
-        if (wwvb_entry_at(entries, i).place == 0) {
+        wwvb_entry e = wwvb_entry_at(entries, i);
+
+        if (e.kind == WWVB_ENTRY_TIME && e.place == 0) {
             *minute = wwvb_entry_at(entries, 0).minute;
             return 1;
         }
     }
-    *why = "Every frame was repaired.";
+    *why = "Every time frame was repaired.";
     return 0;
 }
 
@@ -97,22 +101,31 @@ static void say(const struct pickup *first, const struct pickup *second)
     }
 }
 
-/* Frames from a minute on, by the plan of the United States; this stands for the radio. A writing
-   that is refused leaves a pickup without bits, which does not count. */
-static struct pickup take(const char *name, uint32_t minute, uint32_t frames)
+/* Frames from a minute on by a plan; this stands for the radio. A writing that is refused leaves a
+   pickup without bits, which does not count. */
+static struct pickup take_by(const wwvb_plan *plan, const char *name, uint32_t minute,
+                             uint32_t frames)
 {
     struct pickup p;
-    wwvb_plan plan = wwvb_us_plan();
 
     memset(&p, 0, sizeof p);
     p.name = name;
-    p.length = wwvb_write(&plan, minute, frames, p.bits, sizeof p.bits).bits;
+    p.length = wwvb_write(plan, minute, frames, p.bits, sizeof p.bits).bits;
     return p;
+}
+
+/* The same by the plan of the United States. */
+static struct pickup take(const char *name, uint32_t minute, uint32_t frames)
+{
+    wwvb_plan plan = wwvb_us_plan();
+
+    return take_by(&plan, name, minute, frames);
 }
 
 int main(void)
 {
     wwvb_minute_reply noon = wwvb_date_to_minute(2012, 7, 4, 12, 0);
+    wwvb_plan plan = wwvb_us_plan();
     struct pickup first, next;
 
     if (noon.refusal != WWVB_OK) {
@@ -140,6 +153,19 @@ int main(void)
     next.bits[44] ^= 1;
     next.bits[45] ^= 1;
     say(&first, &next);
+
+    plan.message_count = 1; /* the frame of 12:04 is a message */
+    plan.messages[0].minute = noon.minute + 4;
+    plan.messages[0].data = 42;
+    next = take_by(&plan, "one with a message", noon.minute + 3, 3);
+    say(&first, &next);
+    next.name = "one with a message between repaired frames";
+    next.bits[46] ^= 1;
+    next.bits[2 * 60 + 46] ^= 1;
+    say(&first, &next);
+    next = take_by(&plan, "one that begins with a message", noon.minute + 4, 3);
+    say(&first, &next);
+
     next = take("one with noise", noon.minute + 3, 3);
     next.bits[60 + 2] ^= 1; /* the sync word of its second frame */
     say(&first, &next);

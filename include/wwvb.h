@@ -1,12 +1,15 @@
 /*
  * wwvb.h: the two codes of WWVB, written and read, and dates and local dates. The phase code has
- * one bit a second and comes in recordings of time frames. The amplitude code is written and read
- * one minute a call. C99 or later, C++11 or later.
+ * one bit a second and comes in recordings of frames. The amplitude code is written and read one
+ * minute a call. C99 or later, C++11 or later.
  * SPDX-License-Identifier: Apache-2.0
  *
  * A bit is a byte of value 0 or 1, the first sent first. A frame is one minute: 60 bits, or 59 or
  * 61 in the last minute of a month with a leap second. A minute number counts minutes from
  * 2000-01-01 00:00 UTC, leap seconds ignored.
+ *
+ * A time frame has its minute in a time word. A message frame takes the place of a minute's time
+ * frame: it has 42 bits of data and no time word. Its minute is counted on from the frame before.
  *
  * A symbol is one second of the amplitude code: a byte of value 0, 1 or 2, the first sent first,
  * and 2 is a marker. A minute has as many symbols as its frame has bits.
@@ -24,10 +27,13 @@
  * all passed.
  *
  * Which minutes to trust: this is about the phase code. In a recording read completely from a
- * frame's first bit, a false minute takes two inverted time bits in every frame, and three in each
- * frame with place 0. Judge by a minute only if the reading is complete (refusal 0) and at least
- * one of its frames has place 0. Where the start was searched for, use two frames in order: LIVE
- * INPUT in wwvb(3) says how.
+ * frame's first bit, a false minute takes two wrong time bits in every frame that is read as a
+ * time frame, and three in each of them with place 0. Judge by a minute only if the reading is
+ * complete (refusal 0) and at least one of its time frames has place 0. A message has place 0 too,
+ * but no time word, so it makes no minute sure. Its own minute is counted: use it only with a time
+ * frame after it in the same reading. Where the start was searched for, use two time frames in
+ * order, and more where others choose the data of messages: LIVE INPUT in wwvb(3) says how.
+ * The data of a message have no check bits: an inverted bit of them is not noticed.
  * The amplitude code has no check bits: one wrong symbol can make another legal minute, which is
  * not refused. It is for wall clocks; do not base decisions on its minutes.
  *
@@ -41,17 +47,17 @@
 #include <stdint.h>
 
 /*
- * The version. A break raises MAJOR, and with it the soname of the shared library (libwwvb.so.0).
+ * The version. A break raises MAJOR, and with it the soname of the shared library (libwwvb.so.1).
  * A break is another size or layout of an entry or a reply, another number for a refusal, another
- * signature of a call, or another answer of a call. An added kind of plan, which was refused before,
- * is not a break. Added calls, names, kinds of plan and refusals of added calls raise MINOR, and so
- * do fields added to the end of wwvb_plan or wwvb_entry. The library itself takes neither, so it is
- * enough to compile again. Anything else raises PATCH.
+ * signature of a call, or another answer of a call. An added kind of plan, which was refused
+ * before, is not a break. Added calls, names, kinds of plan and refusals of added calls raise
+ * MINOR, and so do fields added to the end of wwvb_plan or wwvb_entry. The library itself takes
+ * neither, so it is enough to compile again. Anything else raises PATCH.
  */
-#define WWVB_VERSION_MAJOR 0
-#define WWVB_VERSION_MINOR 6
+#define WWVB_VERSION_MAJOR 1
+#define WWVB_VERSION_MINOR 0
 #define WWVB_VERSION_PATCH 0
-#define WWVB_VERSION "0.6.0"
+#define WWVB_VERSION "1.0.0"
 
 /* A result that must not be ignored; the compiler warns where it can. */
 #if (defined(__cplusplus) && __cplusplus >= 201703L) || \
@@ -81,7 +87,13 @@ extern "C" {
 /* Bits of the longest written recording: 60 for each of 1,000 frames, and a leap second. */
 #define WWVB_MAX_RECORDING 60001u
 /* Bytes of an entry. */
-#define WWVB_ENTRY_SIZE 12u
+#define WWVB_ENTRY_SIZE 18u
+/* Messages of a plan: at most WWVB_MAX_MESSAGES. */
+#define WWVB_MAX_MESSAGES 4u
+/* Bytes of a message, as wwvb_write_recording and wwvb_write_amplitude take it. */
+#define WWVB_MESSAGE_SIZE 10u
+/* The data of a message are 0 to WWVB_DATA_LIMIT - 1; the limit is 2^42. */
+#define WWVB_DATA_LIMIT 4398046511104ull
 
 /* ------------------------------------------------------------------------------------------------
  * Refusals
@@ -89,42 +101,49 @@ extern "C" {
 
 /* Writing means wwvb_write_recording, wwvb_write_amplitude and their inline forms;
    wwvb_write_amplitude makes no check 2. Reading means wwvb_read_frame and wwvb_read_recording.
-   The latter makes checks 5 to 14 for each frame. Comments name the amplitude code where they are
+   The latter makes the checks for each frame. Comments name the amplitude code where they are
    about it. */
 enum wwvb_refusal {
     WWVB_OK = 0,               /* every check passed */
-    WWVB_ILLEGAL_PLAN = 1,     /* writing: the plan is not legal */
+    WWVB_ILLEGAL_PLAN = 1,     /* writing: the plan, or one of its messages, is not legal */
     WWVB_BAD_COUNT = 2,        /* writing a recording: the count is not 1 to 1,000 */
     WWVB_MINUTE_TOO_LARGE = 3, /* writing: the minute, or the last of a recording, is past
                                   52,595,999; minute to date, local date: the minute is */
     WWVB_NO_BIT_SPACE = 4,     /* writing: the buffer does not hold all the bits or symbols */
-    WWVB_NO_ENTRY_SPACE = 5,   /* reading: fewer than 12 entry bytes are free */
+    WWVB_NO_ENTRY_SPACE = 5,   /* reading: fewer than WWVB_ENTRY_SIZE entry bytes are free */
     WWVB_TOO_SHORT = 6,        /* reading: fewer than 59 bits are left */
     WWVB_NOT_BITS = 7,         /* reading: one of the first 59 bytes is not 0 or 1 */
-    WWVB_BAD_SYNC = 8,         /* reading: the sync word is wrong */
-    WWVB_BAD_STATE = 9,        /* reading: the state word is illegal */
-    WWVB_BAD_NEXT_CHANGE = 10, /* reading: the next-change word is not assigned */
-    WWVB_BAD_MINUTE = 11,      /* reading: the minute read is past 52,595,999 */
+    WWVB_BAD_SYNC = 8,         /* reading: the sync word is neither that of a time frame nor that
+                                  of a message */
+    WWVB_BAD_STATE = 9,        /* reading a time frame: the state word is illegal */
+    WWVB_BAD_NEXT_CHANGE = 10, /* reading a time frame: the next-change word is not assigned */
+    WWVB_BAD_MINUTE = 11,      /* reading: the minute read, or counted for a message, is past
+                                  52,595,999 */
     /* 12 is no longer returned */
     WWVB_BAD_LENGTH = 13,      /* reading: fewer bits are left than the frame has, or a byte of it
                                   after bit 58 is not 0; wwvb_read_frame: also more bits */
     WWVB_OUT_OF_ORDER = 14,    /* reading a recording: the minute is not one more than that of the
-                                  frame before */
+                                  frame before; of a message: bit 19 is not time[0] of the minute
+                                  counted */
     WWVB_NOT_A_DATE = 15,      /* date to minute: no real date of 2000 to 2099 */
     WWVB_BAD_SETTING = 16,     /* local date: the state is above 3, the offset not -600 to -240, or
                                   the hour not 1 to 3 */
     WWVB_BAD_SYMBOLS = 17,     /* reading the amplitude code: not 59 to 61 symbols, a byte above 2,
                                   a marker missing or elsewhere, or a fixed 0 that is not 0 */
-    WWVB_BAD_VALUE = 18        /* writing the amplitude code: the UT1 sign is not +1 or -1, or the
+    WWVB_BAD_VALUE = 18,       /* writing the amplitude code: the UT1 sign is not +1 or -1, or the
                                   tenths are above 9. Reading it: a digit, the UT1 sign or a field
                                   is out of range, or the leap-year mark or the length does not fit
                                   the rest. */
+    WWVB_FIRST_MESSAGE = 19,   /* reading: the first frame is a message, so its minute is not
+                                  known; wwvb_read_frame: every message */
+    WWVB_UNKNOWN_LENGTH = 20   /* reading a recording: a message in a month's last minute, and no
+                                  time frame of that month was read, so its length is not known */
 };
 
 /* Each refusal with a sentence for people. A new refusal takes a line above and a line here. */
 #define WWVB_REFUSALS(X) \
     X(WWVB_OK, "The call was accepted.") \
-    X(WWVB_ILLEGAL_PLAN, "The plan is not legal.") \
+    X(WWVB_ILLEGAL_PLAN, "The plan, or one of its messages, is not legal.") \
     X(WWVB_BAD_COUNT, "The number of frames is not 1 to 1,000.") \
     X(WWVB_MINUTE_TOO_LARGE, "The minute is after 2099-12-31 23:59.") \
     X(WWVB_NO_BIT_SPACE, "The buffer does not hold all the bits or symbols.") \
@@ -136,11 +155,13 @@ enum wwvb_refusal {
     X(WWVB_BAD_NEXT_CHANGE, "The next-change word of the frame is not assigned.") \
     X(WWVB_BAD_MINUTE, "The minute of the frame is after 2099-12-31 23:59.") \
     X(WWVB_BAD_LENGTH, "The frame has the wrong number of bits, or one after bit 58 is not 0.") \
-    X(WWVB_OUT_OF_ORDER, "The minute is not one more than that of the frame before.") \
+    X(WWVB_OUT_OF_ORDER, "The frame is not that of the next minute.") \
     X(WWVB_NOT_A_DATE, "There is no such date from 2000 to 2099.") \
     X(WWVB_BAD_SETTING, "The daylight state, the offset or the change hour is out of range.") \
     X(WWVB_BAD_SYMBOLS, "The minute has the wrong number of symbols, or a wrong one.") \
-    X(WWVB_BAD_VALUE, "A value of the amplitude code is out of range or does not fit the rest.")
+    X(WWVB_BAD_VALUE, "A value of the amplitude code is out of range or does not fit the rest.") \
+    X(WWVB_FIRST_MESSAGE, "The first frame is a message, and its minute is not known.") \
+    X(WWVB_UNKNOWN_LENGTH, "A message's length is not known: no time frame of its month was read.")
 
 /* The name of a refusal as it stands above, or the words unknown refusal for any other number. */
 static inline const char *wwvb_refusal_name(uint32_t refusal)
@@ -209,17 +230,27 @@ static inline uint32_t wwvb_change_hour(uint32_t row)
     return row >= 1 && row <= 48 ? (row - 1) % 24 / 8 + 1 : 0u;
 }
 
-/* Where the fields of an entry stand. An entry has 12 bytes, and the last is 0. */
+/* What an entry tells of. */
+enum wwvb_entry_kind {
+    WWVB_ENTRY_TIME = 0,   /* a time frame */
+    WWVB_ENTRY_MESSAGE = 1 /* a message frame */
+};
+
+/* Where the fields of an entry stand. An entry has WWVB_ENTRY_SIZE bytes. That of a message has
+   the minute counted, length, notice, kind and data; its daylight state, leap state, row and place
+   are 0 and tell nothing, and its echo is 1. */
 enum wwvb_entry_byte {
     WWVB_ENTRY_MINUTE = 0,   /* 4 bytes, the most significant first */
     WWVB_ENTRY_LENGTH = 4,   /* bits of the frame: 59, 60 or 61 */
     WWVB_ENTRY_DAYLIGHT = 5, /* enum wwvb_daylight */
     WWVB_ENTRY_LEAP = 6,     /* enum wwvb_leap */
-    WWVB_ENTRY_ROW = 7,      /* row of the next-change word, 1 to 51 */
+    WWVB_ENTRY_ROW = 7,      /* row of the next-change word, 1 to 51; 0 for a message */
     WWVB_ENTRY_NOTICE = 8,   /* 0 or 1 */
     WWVB_ENTRY_PLACE = 9,    /* place of the time word that was repaired, 1 to 31, or 0 for none */
-    WWVB_ENTRY_ECHO = 10     /* 1 if bit 19 equals time[0] of the minute read, else 0; a frame is
-                                accepted either way */
+    WWVB_ENTRY_ECHO = 10,    /* 1 if bit 19 equals time[0] of the minute read, else 0; a time frame
+                                is accepted either way */
+    WWVB_ENTRY_KIND = 11,    /* enum wwvb_entry_kind */
+    WWVB_ENTRY_DATA = 12     /* 6 bytes, the most significant first; of a time frame all 0 */
 };
 
 /* ------------------------------------------------------------------------------------------------
@@ -252,8 +283,8 @@ typedef struct wwvb_write_reply {
 } wwvb_write_reply;
 
 /* The number of entries, the bits of the frames that they describe, and the refusal (0, 5 to 11,
-   13 or 14). Refused, entries and used are those of the frames before the refused one, which
-   begins at bits[used]. */
+   13, 14, 19 or 20). Refused, entries and used are those of the frames before the refused one,
+   which begins at bits[used]. */
 typedef struct wwvb_read_reply {
     size_t entries;
     size_t used;
@@ -291,7 +322,8 @@ WWVB_MUST_USE wwvb_minute_reply wwvb_date_to_minute(uint32_t year, uint32_t mont
 
 /*
  * The local date of a minute number:
- *   state   the minute's daylight state, as an entry or an amplitude reply has it, 0 to 3
+ *   state   the minute's daylight state, as a time frame's entry or an amplitude reply has it,
+ *           0 to 3
  *   offset  standard time less UTC in minutes, -600 to -240; it need not be whole hours
  *   hour    the local hour at which the clocks change on a day of state 1 or 2, 1 to 3
  * Daylight time is standard time plus 60 minutes: in state 3 all day, in state 2 from `hour` of
@@ -305,17 +337,23 @@ WWVB_MUST_USE wwvb_date_reply wwvb_local_date(uint32_t minute, uint32_t state, i
 
 /*
  * Writes the frames of `count` minutes from `first` on, each directly after the one before, by a
- * plan of six numbers:
+ * plan of six numbers and its messages:
  *   kind        enum wwvb_kind
  *   spring      kinds 0 and 3: row 1 to 24; else 0
  *   autumn      kinds 0 and 3: row 25 to 48; else 0
  *   leap_month  month with a leap second at its end, 0 (January 2000) to 1199; 0 if the sign is 0
  *   leap_sign   -1, 0 or +1
  *   notice      0 or 1
+ *   messages    up to WWVB_MAX_MESSAGES, WWVB_MESSAGE_SIZE bytes each: the minute in 4 bytes, then
+ *               the data in 6, both with the most significant byte first. The minutes are in range
+ *               and strictly rising, and the data below WWVB_DATA_LIMIT.
+ * The frame of a message's minute is a message frame. Messages of minutes that are not written are
+ * checked and not sent. A `messages_length` of 0 is a plan without messages. One that is not a
+ * multiple of WWVB_MESSAGE_SIZE, or is above four messages, gives WWVB_ILLEGAL_PLAN (1).
  * With WWVB_KIND_EARLIER_LAW (3), daylight time up to 2006 is from the first Sunday in April to
- * the last Sunday in October, at 2 o'clock local. The rows sent for these changes are 13 or 14, and
- * 36. The plan's own spring row is sent from 2006-10-29 00:00 UTC on. Its rows are needed even if
- * all minutes are before that.
+ * the last Sunday in October, at 2 o'clock local. The rows sent for these changes are 13 or 14,
+ * and 36. The plan's own spring row is sent from 2006-10-29 00:00 UTC on. Its rows are needed even
+ * if all minutes are before that.
  * Refusals: WWVB_ILLEGAL_PLAN (1), WWVB_BAD_COUNT (2), WWVB_MINUTE_TOO_LARGE (3) for the last
  * minute, WWVB_NO_BIT_SPACE (4). A refused writing does not report how many bytes it needs; an
  * `out_length` of WWVB_MAX_RECORDING is always enough.
@@ -325,17 +363,20 @@ WWVB_MUST_USE wwvb_date_reply wwvb_local_date(uint32_t minute, uint32_t state, i
 WWVB_MUST_USE wwvb_write_reply wwvb_write_recording(uint32_t kind, uint32_t spring,
                                                     uint32_t autumn, uint32_t leap_month,
                                                     int32_t leap_sign, uint32_t notice,
-                                                    uint32_t first, uint32_t count, uint8_t *out,
+                                                    const uint8_t *messages,
+                                                    size_t messages_length, uint32_t first,
+                                                    uint32_t count, uint8_t *out,
                                                     size_t out_length);
 
 /*
- * Reads one frame, which is all of `bits`. Returns the refusal, or WWVB_OK. Refusals:
+ * Reads one time frame, which is all of `bits`. Returns the refusal, or WWVB_OK. Refusals:
  * WWVB_NO_ENTRY_SPACE (5), WWVB_TOO_SHORT (6), WWVB_NOT_BITS (7), WWVB_BAD_SYNC (8),
- * WWVB_BAD_STATE (9), WWVB_BAD_NEXT_CHANGE (10), WWVB_BAD_MINUTE (11), WWVB_BAD_LENGTH (13).
- * After the call the first 12 bytes of `entry` are the frame's entry, and every byte after them is
- * as before. Refused, every byte of `entry` is as before. Bits 19, 29 and 39 may be 0 or 1. Bit
- * 19, the echo, changes the entry's echo byte alone, and bits 29 and 39 change nothing.
- * Of a frame that wwvb_write_recording writes any one bit may be inverted. Then the result is:
+ * WWVB_FIRST_MESSAGE (19) for every message frame, WWVB_BAD_STATE (9), WWVB_BAD_NEXT_CHANGE (10),
+ * WWVB_BAD_MINUTE (11), WWVB_BAD_LENGTH (13).
+ * After the call the first WWVB_ENTRY_SIZE bytes of `entry` are the frame's entry, and every byte
+ * after them is as before. Refused, every byte of `entry` is as before. Bits 19, 29 and 39 may be
+ * 0 or 1. Bit 19, the echo, changes the entry's echo byte alone. Bits 29 and 39 change nothing.
+ * Of a time frame that wwvb_write_recording writes any one bit may be inverted. The result then:
  *   time word (13 to 18, 20 to 28, 30 to 38, 40 to 46)  the entry as sent, with the place repaired
  *   19, 29 or 39                                        as said above
  *   49                                                  the notice byte alone differs
@@ -349,11 +390,20 @@ WWVB_MUST_USE uint32_t wwvb_read_frame(const uint8_t *bits, size_t bits_length, 
 
 /*
  * Reads the frames of a recording, which begins at a frame's first bit, until no bits are left or
- * a frame is refused. No bits at all give no entries and WWVB_OK. Refusals, frame by frame: those
- * of wwvb_read_frame, then WWVB_OUT_OF_ORDER (14). Bits 19, 29 and 39 of each frame may be 0 or 1
- * as above.
- * After the call `entries` holds the entries read, 12 bytes each, from entries[0] on, and every
- * byte after them is as before, refused or not.
+ * a frame is refused. No bits at all give no entries and WWVB_OK. Refusals, frame by frame:
+ *   time frame  WWVB_NO_ENTRY_SPACE (5), WWVB_TOO_SHORT (6), WWVB_NOT_BITS (7), WWVB_BAD_SYNC (8),
+ *               WWVB_BAD_STATE (9), WWVB_BAD_NEXT_CHANGE (10), WWVB_BAD_MINUTE (11),
+ *               WWVB_BAD_LENGTH (13), WWVB_OUT_OF_ORDER (14)
+ *   message     5, 6, 7 and 8, then WWVB_FIRST_MESSAGE (19) if it is the first frame,
+ *               WWVB_UNKNOWN_LENGTH (20), WWVB_BAD_MINUTE (11) for the minute counted,
+ *               WWVB_BAD_LENGTH (13), WWVB_OUT_OF_ORDER (14) for its bit 19
+ * Bits 19, 29 and 39 of each time frame may be 0 or 1 as above, and so may bits 29 and 39 of each
+ * message.
+ * A message's length is that of its minute by the leap state that was read last in the same month.
+ * In a month's last minute it is not known (20) if no time frame of that month was read before.
+ * The reader takes more messages than a plan can have.
+ * After the call `entries` holds the entries read, WWVB_ENTRY_SIZE bytes each, from entries[0] on,
+ * and every byte after them is as before, refused or not.
  * The first frame of a call is compared with no other: a call has no memory of the call before.
  * Bits that come one a second are read by this call too; LIVE INPUT in wwvb(3) says how.
  */
@@ -366,9 +416,9 @@ WWVB_MUST_USE wwvb_read_reply wwvb_read_recording(const uint8_t *bits, size_t bi
  *   ut1_sign    the sign of UT1 minus UTC: +1 or -1
  *   ut1_tenths  its tenths of a second, 0 to 9; plus 0 and minus 0 are written differently
  * The plan's daylight state is sent, and the warning in every minute of the leap month. Rows, leap
- * sign and notice are checked but not sent. The reply's field `bits` is the number of symbols, 59,
- * 60 or 61, as many as the minute's frame has bits. AMPLITUDE CODE in wwvb(3) has the seconds of
- * each field.
+ * sign, notice and messages are checked but not sent: the symbols of a message's minute are those
+ * of any other. The reply's field `bits` is the number of symbols, 59, 60 or 61, as many as the
+ * minute's frame has bits. AMPLITUDE CODE in wwvb(3) has the seconds of each field.
  * Refusals: WWVB_ILLEGAL_PLAN (1), WWVB_MINUTE_TOO_LARGE (3), WWVB_BAD_VALUE (18) for the UT1 sign
  * or the tenths, WWVB_NO_BIT_SPACE (4). An `out_length` of WWVB_MAX_FRAME is always enough.
  * After the call `out` holds the symbols from out[0] on, and every byte after the last symbol is
@@ -377,9 +427,10 @@ WWVB_MUST_USE wwvb_read_reply wwvb_read_recording(const uint8_t *bits, size_t bi
 WWVB_MUST_USE wwvb_write_reply wwvb_write_amplitude(uint32_t kind, uint32_t spring,
                                                     uint32_t autumn, uint32_t leap_month,
                                                     int32_t leap_sign, uint32_t notice,
-                                                    uint32_t minute, int32_t ut1_sign,
-                                                    uint32_t ut1_tenths, uint8_t *out,
-                                                    size_t out_length);
+                                                    const uint8_t *messages,
+                                                    size_t messages_length, uint32_t minute,
+                                                    int32_t ut1_sign, uint32_t ut1_tenths,
+                                                    uint8_t *out, size_t out_length);
 
 /*
  * Reads one minute of the amplitude code, which is all of `symbols`. Refusals: WWVB_BAD_SYMBOLS
@@ -395,8 +446,8 @@ WWVB_MUST_USE wwvb_write_reply wwvb_write_amplitude(uint32_t kind, uint32_t spri
  * month. Two digits of the year are sent, and the year given is 2000 to 2099. wwvb_date_to_minute
  * gives the minute number of the date.
  * A minute that wwvb_write_amplitude writes is read as sent: it has the date, the daylight state
- * and the length of the same minute's frame. But the code has no check bits: one wrong symbol can
- * make another legal minute.
+ * and the length of the same minute's time frame. But the code has no check bits: one wrong symbol
+ * can make another legal minute.
  */
 WWVB_MUST_USE wwvb_amplitude_reply wwvb_read_amplitude(const uint8_t *symbols,
                                                        size_t symbols_length);
@@ -408,7 +459,14 @@ WWVB_MUST_USE wwvb_amplitude_reply wwvb_read_amplitude(const uint8_t *symbols,
  * 0 (which is not legal until it has rows), and set fields by name.
  */
 
-/* A plan, as wwvb_write_recording and wwvb_write_amplitude take it in six numbers. */
+/* A message: its minute, and its data, below WWVB_DATA_LIMIT. */
+typedef struct wwvb_message {
+    uint32_t minute;
+    uint64_t data;
+} wwvb_message;
+
+/* A plan, as wwvb_write_recording and wwvb_write_amplitude take it in six numbers and bytes. The
+   messages are the first `message_count` of the array; the others may hold anything. */
 typedef struct wwvb_plan {
     uint32_t kind;
     uint32_t spring;
@@ -416,12 +474,15 @@ typedef struct wwvb_plan {
     uint32_t leap_month;
     int32_t leap_sign;
     uint32_t notice;
+    uint32_t message_count; /* 0 to WWVB_MAX_MESSAGES */
+    wwvb_message messages[WWVB_MAX_MESSAGES];
 } wwvb_plan;
 
-/* A plan with daylight time by two rows, without a leap second or a notice. */
+/* A plan with daylight time by two rows, without a leap second, a notice or messages. */
 WWVB_MUST_USE static inline wwvb_plan wwvb_plan_by_rows(uint32_t spring, uint32_t autumn)
 {
     wwvb_plan plan;
+    uint32_t i;
 
     plan.kind = WWVB_KIND_ROWS;
     plan.spring = spring;
@@ -429,17 +490,22 @@ WWVB_MUST_USE static inline wwvb_plan wwvb_plan_by_rows(uint32_t spring, uint32_
     plan.leap_month = 0;
     plan.leap_sign = 0;
     plan.notice = 0;
+    plan.message_count = 0;
+    for (i = 0; i < WWVB_MAX_MESSAGES; i++) {
+        plan.messages[i].minute = 0;
+        plan.messages[i].data = 0;
+    }
     return plan;
 }
 
-/* The plan of the United States since 2007, without a leap second or a notice. */
+/* The plan of the United States since 2007, without a leap second, a notice or messages. */
 WWVB_MUST_USE static inline wwvb_plan wwvb_us_plan(void)
 {
     return wwvb_plan_by_rows(WWVB_US_SPRING_ROW, WWVB_US_AUTUMN_ROW);
 }
 
-/* The plan of the United States since 2000, by the law of each year, without a leap second or a
-   notice. */
+/* The plan of the United States since 2000, by the law of each year, without a leap second, a
+   notice or messages. */
 WWVB_MUST_USE static inline wwvb_plan wwvb_us_plan_since_2000(void)
 {
     wwvb_plan plan = wwvb_us_plan();
@@ -448,13 +514,44 @@ WWVB_MUST_USE static inline wwvb_plan wwvb_us_plan_since_2000(void)
     return plan;
 }
 
+/*
+ * The messages of a plan as wwvb_write_recording and wwvb_write_amplitude take them. `bytes` has
+ * space for WWVB_MAX_MESSAGES * WWVB_MESSAGE_SIZE. Returns the length. A plan with too many
+ * messages, or with data that 6 bytes do not hold, gives a length of 1. Messages cannot have that
+ * length, so both calls refuse it with WWVB_ILLEGAL_PLAN (1), and nothing is cut off.
+ */
+WWVB_MUST_USE static inline size_t wwvb_message_bytes(const wwvb_plan *plan, uint8_t *bytes)
+{
+    uint32_t i, k;
+
+    bytes[0] = 0;
+    if (plan->message_count > WWVB_MAX_MESSAGES)
+        return 1;
+    for (i = 0; i < plan->message_count; i++) {
+        const wwvb_message *message = &plan->messages[i];
+        uint8_t *b = bytes + i * WWVB_MESSAGE_SIZE;
+
+        if (message->data >> 48 != 0)
+            return 1;
+        for (k = 0; k < 4; k++)
+            b[k] = (uint8_t)(message->minute >> (24 - 8 * k) & 255);
+        for (k = 0; k < 6; k++)
+            b[4 + k] = (uint8_t)(message->data >> (40 - 8 * k) & 255);
+    }
+    return (size_t)plan->message_count * WWVB_MESSAGE_SIZE;
+}
+
 /* wwvb_write_recording by a plan that is a struct. */
 WWVB_MUST_USE static inline wwvb_write_reply wwvb_write(const wwvb_plan *plan, uint32_t first,
                                                         uint32_t count, uint8_t *out,
                                                         size_t out_length)
 {
+    uint8_t messages[WWVB_MAX_MESSAGES * WWVB_MESSAGE_SIZE];
+    size_t messages_length = wwvb_message_bytes(plan, messages);
+
     return wwvb_write_recording(plan->kind, plan->spring, plan->autumn, plan->leap_month,
-                                plan->leap_sign, plan->notice, first, count, out, out_length);
+                                plan->leap_sign, plan->notice, messages, messages_length, first,
+                                count, out, out_length);
 }
 
 /* wwvb_write_amplitude by a plan that is a struct. */
@@ -465,9 +562,12 @@ WWVB_MUST_USE static inline wwvb_write_reply wwvb_write_amplitude_by_plan(const 
                                                                           uint8_t *out,
                                                                           size_t out_length)
 {
+    uint8_t messages[WWVB_MAX_MESSAGES * WWVB_MESSAGE_SIZE];
+    size_t messages_length = wwvb_message_bytes(plan, messages);
+
     return wwvb_write_amplitude(plan->kind, plan->spring, plan->autumn, plan->leap_month,
-                                plan->leap_sign, plan->notice, minute, ut1_sign, ut1_tenths, out,
-                                out_length);
+                                plan->leap_sign, plan->notice, messages, messages_length, minute,
+                                ut1_sign, ut1_tenths, out, out_length);
 }
 
 /* An entry; the fields are those of enum wwvb_entry_byte. */
@@ -480,6 +580,8 @@ typedef struct wwvb_entry {
     uint32_t notice;
     uint32_t place;
     uint32_t echo;
+    uint32_t kind; /* enum wwvb_entry_kind */
+    uint64_t data;
 } wwvb_entry;
 
 /* The entry at `index`, from 0, of a buffer that a reading filled; `index` is less than the number
@@ -488,7 +590,9 @@ WWVB_MUST_USE static inline wwvb_entry wwvb_entry_at(const uint8_t *entries, siz
 {
     const uint8_t *e = entries + index * WWVB_ENTRY_SIZE;
     const uint8_t *m = e + WWVB_ENTRY_MINUTE;
+    const uint8_t *d = e + WWVB_ENTRY_DATA;
     wwvb_entry entry;
+    int i;
 
     entry.minute = m[0];
     entry.minute = entry.minute << 8 | m[1];
@@ -501,28 +605,36 @@ WWVB_MUST_USE static inline wwvb_entry wwvb_entry_at(const uint8_t *entries, siz
     entry.notice = e[WWVB_ENTRY_NOTICE];
     entry.place = e[WWVB_ENTRY_PLACE];
     entry.echo = e[WWVB_ENTRY_ECHO];
+    entry.kind = e[WWVB_ENTRY_KIND];
+    entry.data = 0;
+    for (i = 0; i < 6; i++)
+        entry.data = entry.data << 8 | d[i];
     return entry;
 }
 
 /*
  * The local date of an entry: wwvb_local_date by its minute, its state and the hour of its row.
  * Refusal: 16 for an offset that is not -600 to -240, and on the day of a change if the entry's
- * row has no hour. An entry that the caller made may also give 3, for its minute, or 16, for its
- * state.
+ * row has no hour. The entry of a message gives 16 too: its daylight state is not known, and the 0
+ * in its place does not mean standard time. Call wwvb_local_date with the state and the hour of a
+ * time frame of the same UTC day. An entry that the caller made may also give 3, for its minute,
+ * or 16, for its state.
  * On the day of a change the row is that of the change after today's. So the hour is right if both
  * changes of a year come at the same hour, as in the United States. With WWVB_KIND_EARLIER_LAW the
- * row of 2006-10-29 is the plan's own spring row. On that day the hour is right only if that row is
- * one for 2 o'clock. Where the hours differ, keep the row of the day before and call wwvb_local_date with its hour.
+ * row of 2006-10-29 is the plan's own spring row. On that day the hour is right only if that row
+ * is one for 2 o'clock. Where the hours differ, keep the row of the day before and call
+ * wwvb_local_date with its hour.
  */
 WWVB_MUST_USE static inline wwvb_date_reply wwvb_entry_local_date(const wwvb_entry *entry,
                                                                   int32_t offset)
 {
     uint32_t hour = wwvb_change_hour(entry->row);
+    uint32_t state = entry->kind == WWVB_ENTRY_TIME ? entry->daylight : 4u; /* 4 is no state */
 
     /* without a change today the hour does not matter */
-    if (hour == 0 && (entry->daylight == WWVB_DAYLIGHT_OFF || entry->daylight == WWVB_DAYLIGHT_ON))
+    if (hour == 0 && (state == WWVB_DAYLIGHT_OFF || state == WWVB_DAYLIGHT_ON))
         hour = 1;
-    return wwvb_local_date(entry->minute, entry->daylight, offset, hour);
+    return wwvb_local_date(entry->minute, state, offset, hour);
 }
 
 #ifdef __cplusplus

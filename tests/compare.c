@@ -1,8 +1,9 @@
 /*
- * Compares every call of the library with the plain C reference: on boundary cases, and on seeded random ones, valid and
- * damaged. Each buffer stands between guard bytes and a page that may not be touched; buffer and guards are compared
- * whole after the call, refused or not. Each number that a call can give is seen, and no other; no call gives 12.
- * Plans of each kind are written, those of kind 3 by the earlier law and by their own rows.
+ * Compares every call of the library with the plain C reference: on boundary cases, and on seeded
+ * random ones, valid and damaged. Each buffer stands between guard bytes and a page that may not
+ * be touched; buffer and guards are compared whole after the call, refused or not. Each number
+ * that a call can give is seen, and no other; no call gives 12. Plans of each kind are written,
+ * those of kind 3 by the earlier law and by their own rows, and plans with none to four messages.
  *
  * usage: compare [CASES [SEED [exact]]]
  *   exact: buffers are blocks of malloc of just their length, for valgrind
@@ -19,10 +20,12 @@
 
 #define GUARD 64
 #define ROOM (WWVB_MAX_RECORDING + 4096)
+#define MONTH (31 * 1440)            /* minutes of the longest month */
+#define LONG_ROOM (60 * (MONTH + 4)) /* bytes of the longest buffer: a month of frames */
 #define MINUTES WWVB_MINUTES
 
 enum call { TO_DATE, TO_MINUTE, LOCAL, WRITE, ONE, READ, WRITE_AMPLITUDE, READ_AMPLITUDE, CALLS };
-#define NUMBERS 19
+#define NUMBERS 21
 
 static const char *const call_names[CALLS] = {
     "wwvb_minute_to_date", "wwvb_date_to_minute", "wwvb_local_date",
@@ -40,8 +43,8 @@ static int can_give(enum call c, unsigned n)
     case TO_MINUTE: return n == 0 || n == 15;
     case LOCAL: return n == 0 || n == 3 || n == 16;
     case WRITE: return n <= 4;
-    case ONE: return n == 0 || (n >= 5 && n <= 13);
-    case READ: return n == 0 || (n >= 5 && n <= 14);
+    case ONE: return n == 0 || (n >= 5 && n <= 13) || n == 19;
+    case READ: return n == 0 || (n >= 5 && n <= 14) || n == 19 || n == 20;
     case WRITE_AMPLITUDE: return n == 0 || n == 1 || n == 3 || n == 4 || n == 18;
     default: return n == 0 || n == 17 || n == 18;
     }
@@ -50,6 +53,8 @@ static int can_give(enum call c, unsigned n)
 static unsigned long seen[CALLS][NUMBERS]; /* by call and number */
 static unsigned long later[NUMBERS];       /* refusals of a recording's later frames */
 static unsigned long lengths[CALLS][62];
+static unsigned long message_lengths[62]; /* of messages that are read */
+static unsigned long message_counts[5];   /* accepted writings by the plan's number of messages */
 static unsigned long kinds[4]; /* accepted writings by the plan's kind */
 static unsigned long own_rows; /* those of kind 3 from 2007 on, by the plan's own rows */
 static unsigned long cases;
@@ -92,7 +97,8 @@ static int one_in(uint32_t n)
 
 /* ---- guarded buffers */
 
-/* A buffer of any length up to ROOM, its bytes as they should be after the call, and its guard bytes. */
+/* A buffer of any length up to LONG_ROOM, its bytes as they should be after the call, and its
+   guard bytes. */
 struct buffer {
     uint8_t *base; /* the pages between two that may not be touched, or the block of malloc */
     uint8_t *at;   /* the buffer */
@@ -101,26 +107,26 @@ struct buffer {
     uint8_t *want;
 };
 
-static struct buffer in_buffer, out_buffer;
+static struct buffer in_buffer, out_buffer, message_buffer;
+
+static size_t area(void)
+{
+    return (LONG_ROOM + 2 * GUARD + 4095) / 4096 * 4096;
+}
 
 static void make(struct buffer *b)
 {
-    size_t page = 4096, pages = (ROOM + 2 * GUARD + page - 1) / page + 2;
+    size_t page = 4096;
 
-    b->want = malloc(ROOM);
+    b->want = malloc(LONG_ROOM);
     if (!b->want)
         abort();
     if (exact)
         return;
-    b->base = mmap(NULL, pages * page, PROT_NONE, MAP_PRIVATE | MAP_ANONYMOUS, -1, 0);
-    if (b->base == MAP_FAILED || mprotect(b->base + page, (pages - 2) * page, PROT_READ | PROT_WRITE) != 0)
+    b->base = mmap(NULL, area() + 2 * page, PROT_NONE, MAP_PRIVATE | MAP_ANONYMOUS, -1, 0);
+    if (b->base == MAP_FAILED || mprotect(b->base + page, area(), PROT_READ | PROT_WRITE) != 0)
         abort();
     b->base += page;
-}
-
-static size_t area(void)
-{
-    return (ROOM + 2 * GUARD + 4095) / 4096 * 4096;
 }
 
 static uint8_t guard_byte(size_t i)
@@ -171,11 +177,79 @@ static void check(enum call c, const struct buffer *b, const char *what)
 }
 
 /* Random bytes, to stand in a buffer before a call writes it. */
-static uint8_t noise[ROOM];
+static uint8_t noise[LONG_ROOM];
 
 static void lay_noise(struct buffer *b, size_t length)
 {
-    lay(b, noise + below((uint32_t)(ROOM - length + 1)), length);
+    lay(b, noise + (length < ROOM ? below((uint32_t)(ROOM - length + 1)) : 0), length);
+}
+
+/* ---- messages */
+
+/* The messages of a plan as the calls take them. */
+struct messages {
+    uint8_t bytes[6 * WWVB_MESSAGE_SIZE];
+    size_t length;
+};
+
+static const struct messages no_messages;
+
+static void set_minute(struct messages *m, size_t i, uint32_t minute)
+{
+    uint8_t *bytes = m->bytes + i * WWVB_MESSAGE_SIZE;
+    int k;
+
+    for (k = 3; k >= 0; k--, minute >>= 8)
+        bytes[k] = (uint8_t)(minute & 255);
+}
+
+static void set_data(struct messages *m, size_t i, uint64_t data)
+{
+    uint8_t *bytes = m->bytes + i * WWVB_MESSAGE_SIZE + 4;
+    int k;
+
+    for (k = 5; k >= 0; k--, data >>= 8)
+        bytes[k] = (uint8_t)(data & 255);
+}
+
+static uint32_t minute_at(const struct messages *m, size_t i)
+{
+    const uint8_t *b = m->bytes + i * WWVB_MESSAGE_SIZE;
+
+    return (uint32_t)b[0] << 24 | (uint32_t)b[1] << 16 | (uint32_t)b[2] << 8 | b[3];
+}
+
+static uint64_t data_at(const struct messages *m, size_t i)
+{
+    uint64_t data = 0;
+    int k;
+
+    for (k = 4; k < 10; k++)
+        data = data << 8 | m->bytes[i * WWVB_MESSAGE_SIZE + k];
+    return data;
+}
+
+/* Adds a message after the others. */
+static void add_message(struct messages *m, uint32_t minute, uint64_t data)
+{
+    size_t i = m->length / WWVB_MESSAGE_SIZE;
+
+    set_minute(m, i, minute);
+    set_data(m, i, data);
+    m->length += WWVB_MESSAGE_SIZE;
+}
+
+/* Whether there is a message for a minute, and which. */
+static int has_message(const struct messages *m, uint32_t minute, size_t *which)
+{
+    size_t i;
+
+    for (i = 0; i < m->length / WWVB_MESSAGE_SIZE; i++)
+        if (minute_at(m, i) == minute) {
+            *which = i;
+            return 1;
+        }
+    return 0;
 }
 
 /* ---- the calls, each beside the reference */
@@ -232,26 +306,46 @@ static void count_kind(const struct ref_plan *p, uint32_t first)
         kinds[p->kind]++;
 }
 
-static void try_write(const struct ref_plan *p, uint32_t first, uint32_t n, size_t space)
+/* The library's call of writing by a plan. */
+static wwvb_write_reply write_by(const struct ref_plan *p, const uint8_t *messages,
+                                 size_t messages_length, uint32_t first, uint32_t n, uint8_t *out,
+                                 size_t space)
+{
+    return wwvb_write_recording(p->kind, p->spring, p->autumn, p->leap_month, p->leap_sign,
+                                p->notice, messages, messages_length, first, n, out, space);
+}
+
+/* Gives the number of bits; they stand in out_buffer. */
+static size_t try_messages(const struct ref_plan *p, const struct messages *m, uint32_t first,
+                           uint32_t n, size_t space)
 {
     size_t bits = 0;
     unsigned refusal;
     wwvb_write_reply r;
 
+    lay(&message_buffer, m->bytes, m->length);
     lay_noise(&out_buffer, space);
-    refusal = ref_write(p, first, n, out_buffer.want, space, &bits);
-    r = wwvb_write_recording(p->kind, p->spring, p->autumn, p->leap_month, p->leap_sign, p->notice, first, n,
-                             out_buffer.at, space);
+    refusal = ref_write(p, m->bytes, m->length, first, n, out_buffer.want, space, &bits);
+    r = write_by(p, message_buffer.at, m->length, first, n, out_buffer.at, space);
     count(WRITE, r.refusal);
     if (r.refusal != refusal)
         fail(WRITE, "the number");
     if (r.bits != bits)
         fail(WRITE, "the number of bits");
     check(WRITE, &out_buffer, "the buffer");
-    if (refusal == 0)
-        count_kind(p, first);
-    if (refusal == 0 && n == 1)
+    check(WRITE, &message_buffer, "a message");
+    if (refusal != 0)
+        return 0;
+    count_kind(p, first);
+    message_counts[m->length / WWVB_MESSAGE_SIZE]++;
+    if (n == 1)
         lengths[WRITE][bits]++;
+    return bits;
+}
+
+static void try_write(const struct ref_plan *p, uint32_t first, uint32_t n, size_t space)
+{
+    try_messages(p, &no_messages, first, n, space);
 }
 
 static unsigned try_one(const uint8_t *bits, size_t length, size_t space)
@@ -273,7 +367,8 @@ static unsigned try_one(const uint8_t *bits, size_t length, size_t space)
     return refusal;
 }
 
-static void try_read(const uint8_t *bits, size_t length, size_t space)
+/* Gives the number. */
+static unsigned try_read(const uint8_t *bits, size_t length, size_t space)
 {
     size_t n, used, i;
     unsigned refusal;
@@ -294,31 +389,46 @@ static void try_read(const uint8_t *bits, size_t length, size_t space)
     check(READ, &out_buffer, "the entry buffer");
     if (n)
         later[refusal]++;
-    for (i = 0; i < n; i++)
-        lengths[READ][out_buffer.at[i * WWVB_ENTRY_SIZE + WWVB_ENTRY_LENGTH]]++;
+    for (i = 0; i < n; i++) {
+        const uint8_t *entry = out_buffer.at + i * WWVB_ENTRY_SIZE;
+
+        lengths[READ][entry[WWVB_ENTRY_LENGTH]]++;
+        message_lengths[entry[WWVB_ENTRY_LENGTH]] += entry[WWVB_ENTRY_KIND];
+    }
+    return refusal;
 }
 
-static void try_write_amplitude(const struct ref_plan *p, uint32_t minute, int32_t sign,
-                                uint32_t tenths, size_t space)
+static void try_amplitude(const struct ref_plan *p, const struct messages *m, uint32_t minute,
+                          int32_t sign, uint32_t tenths, size_t space)
 {
     size_t symbols = 0;
     unsigned refusal;
     wwvb_write_reply r;
 
+    lay(&message_buffer, m->bytes, m->length);
     lay_noise(&out_buffer, space);
-    refusal = ref_write_amplitude(p, minute, sign, tenths, out_buffer.want, space, &symbols);
+    refusal = ref_write_amplitude(p, m->bytes, m->length, minute, sign, tenths, out_buffer.want,
+                                  space, &symbols);
     r = wwvb_write_amplitude(p->kind, p->spring, p->autumn, p->leap_month, p->leap_sign, p->notice,
-                             minute, sign, tenths, out_buffer.at, space);
+                             message_buffer.at, m->length, minute, sign, tenths, out_buffer.at,
+                             space);
     count(WRITE_AMPLITUDE, r.refusal);
     if (r.refusal != refusal)
         fail(WRITE_AMPLITUDE, "the number");
     if (r.bits != symbols)
         fail(WRITE_AMPLITUDE, "the number of symbols");
     check(WRITE_AMPLITUDE, &out_buffer, "the buffer");
+    check(WRITE_AMPLITUDE, &message_buffer, "a message");
     if (refusal == 0) {
         count_kind(p, minute);
         lengths[WRITE_AMPLITUDE][symbols]++;
     }
+}
+
+static void try_write_amplitude(const struct ref_plan *p, uint32_t minute, int32_t sign,
+                                uint32_t tenths, size_t space)
+{
+    try_amplitude(p, &no_messages, minute, sign, tenths, space);
 }
 
 static unsigned try_read_amplitude(const uint8_t *symbols, size_t length)
@@ -425,22 +535,76 @@ static uint32_t random_minute(const struct ref_plan *p)
     return m < MINUTES ? m : below(MINUTES);
 }
 
+/* Data of a message: none, all or one of the bits, or any. */
+static uint64_t random_data(void)
+{
+    switch (below(6)) {
+    case 0: return 0;
+    case 1: return WWVB_DATA_LIMIT - 1;
+    case 2: return (uint64_t)1 << below(42);
+    default: return rnd() % WWVB_DATA_LIMIT;
+    }
+}
+
+/* Up to four messages, in a recording of n minutes from `first` on or about it; the first of them
+   may be long before, and the last long after. */
+static struct messages random_messages(uint32_t first, uint32_t n)
+{
+    struct messages m = no_messages;
+    uint32_t minute = one_in(8) ? below(first + 1) : first + below(5) - 1, left;
+
+    for (left = below(5); left > 0 && minute < MINUTES; left--) {
+        add_message(&m, minute, random_data());
+        if (minute + 8 < first)
+            minute = first + below(3) - 1;
+        else
+            minute += one_in(2) ? 1 : one_in(8) ? 1 + below(MINUTES) : 1 + below(n + 1);
+    }
+    return m;
+}
+
+/* One thing wrong with the messages, or nearly. */
+static void spoil_messages(struct messages *m)
+{
+    size_t i = below(4);
+
+    while (m->length < 2 * WWVB_MESSAGE_SIZE || m->length <= i * WWVB_MESSAGE_SIZE)
+        add_message(m, MINUTES - 5 + (uint32_t)(m->length / WWVB_MESSAGE_SIZE), random_data());
+    switch (below(6)) {
+    case 0: m->length = below(sizeof m->bytes + 1); break;
+    case 1: m->length = 50 + below(2) * 10; break;
+    case 2: set_minute(m, i, minute_at(m, i == 0 ? 1 : i - 1) + below(3) - 1); break;
+    case 3: set_minute(m, i, odd_number(MINUTES - 1)); break;
+    case 4: set_data(m, i, data_at(m, i) | (uint64_t)1 << (41 + below(7))); break;
+    default: m->bytes[below((uint32_t)m->length)] = (uint8_t)rnd(); break;
+    }
+}
+
 static uint32_t few(void)
 {
     return one_in(2000) ? 1000 - below(2) : one_in(60) ? 1 + below(40) : 1 + below(4);
 }
 
 /* A recording of the reference's in `bits`; gives its length. */
-static size_t recording(const struct ref_plan *p, uint32_t first, uint32_t n, uint8_t *bits)
+static size_t recording_with(const struct ref_plan *p, const struct messages *m, uint32_t first,
+                             uint32_t n, uint8_t *bits)
 {
     size_t length = 0;
 
     if (first > MINUTES - n)
         first = MINUTES - n;
-    if (ref_write(p, first, n, bits, ROOM, &length) != 0)
+    if (ref_write(p, m->bytes, m->length, first, n, bits, ROOM, &length) != 0)
         abort();
     return length;
 }
+
+static size_t recording(const struct ref_plan *p, uint32_t first, uint32_t n, uint8_t *bits)
+{
+    return recording_with(p, &no_messages, first, n, bits);
+}
+
+#define TIME_SYNC 0x768     /* 0011101101000 */
+#define MESSAGE_SYNC 0x1a3a /* 1101000111010 */
 
 static void set_word(uint8_t *bits, unsigned value, unsigned n)
 {
@@ -471,7 +635,7 @@ static size_t damage(uint8_t *bits, size_t length, size_t at)
     size_t left = length - at;
     unsigned i;
 
-    switch (below(13)) {
+    switch (below(14)) {
     case 0: /* one bit of the time word */
     case 1: f[ref_bit_of_place(1 + below(31))] ^= 1; break;
     case 2: /* two bits of it */
@@ -495,6 +659,9 @@ static size_t damage(uint8_t *bits, size_t length, size_t at)
     case 11: /* any bits after the sync word */
         for (i = 13; i < 59; i++)
             f[i] = below(2);
+        break;
+    case 12: /* the sync word of a message, or of a time frame */
+        set_word(f, one_in(3) ? TIME_SYNC : MESSAGE_SYNC, 13);
         break;
     default: /* a bit lost, or one more */
         i = below((uint32_t)left);
@@ -668,8 +835,11 @@ static void random_write(void)
 {
     struct ref_plan p = random_plan();
     uint32_t first = random_minute(&p), n = few();
+    struct messages m = one_in(2) ? no_messages : random_messages(first, n);
     size_t space = (size_t)n * 60;
 
+    if (one_in(16))
+        spoil_messages(&m);
     if (one_in(8))
         spoil(&p);
     if (one_in(16))
@@ -686,7 +856,7 @@ static void random_write(void)
     case 4: space += 1; break;
     default: break;
     }
-    try_write(&p, first, n, space);
+    try_messages(&p, &m, first, n, space);
 }
 
 static uint8_t scratch[ROOM + 4096];
@@ -694,12 +864,14 @@ static uint8_t scratch[ROOM + 4096];
 static void random_one(void)
 {
     struct ref_plan p = random_plan();
-    size_t length = recording(&p, random_minute(&p), 1, scratch), space = WWVB_ENTRY_SIZE;
+    uint32_t minute = random_minute(&p);
+    struct messages m = one_in(2) ? no_messages : random_messages(minute, 1);
+    size_t length = recording_with(&p, &m, minute, 1, scratch), space = WWVB_ENTRY_SIZE;
 
     while (one_in(2) && length >= 59)
         length = damage(scratch, length, 0);
     if (one_in(10))
-        space = below(25);
+        space = below(2 * WWVB_ENTRY_SIZE + 1);
     try_one(scratch, length, space);
 }
 
@@ -707,7 +879,8 @@ static void random_read(void)
 {
     struct ref_plan p = random_plan();
     uint32_t n = few(), first = random_minute(&p), i;
-    size_t length = recording(&p, first, n, scratch), space = (size_t)n * WWVB_ENTRY_SIZE;
+    struct messages m = one_in(2) ? no_messages : random_messages(first, n);
+    size_t length = recording_with(&p, &m, first, n, scratch), space = (size_t)n * WWVB_ENTRY_SIZE;
 
     if (one_in(3)) /* one bit of the time word in each frame, and any bits at 19, 29 and 39, while the frames have 60 bits */
         for (i = 0; i < n && (size_t)i * 60 + 60 <= length; i++) {
@@ -720,7 +893,8 @@ static void random_read(void)
         if (one_in(2))
             p = random_plan();
         if (length + 61 * 4 < ROOM) {
-            length += recording(&p, one_in(2) ? first + n : first + n + below(3) - 1, 1 + below(3), scratch + length);
+            i = first + n + (one_in(2) ? 0 : below(3) - 1);
+            length += recording_with(&p, &m, i, 1 + below(3), scratch + length);
             space += 3 * WWVB_ENTRY_SIZE;
         }
     }
@@ -729,7 +903,7 @@ static void random_read(void)
     switch (below(12)) {
     case 0: space = below((uint32_t)space + 1); break;
     case 1: space += below(40); break;
-    case 2: space = space / 12 * 12 - 1; break;
+    case 2: space -= 1; break;
     default: break;
     }
     try_read(scratch, length, space);
@@ -744,15 +918,18 @@ static void random_write_amplitude(void)
 {
     struct ref_plan p = random_plan();
     uint32_t minute = random_minute(&p);
+    struct messages m = one_in(2) ? no_messages : random_messages(minute, 1);
     int32_t sign = random_sign();
     uint32_t tenths = one_in(16) ? odd_number(9) : below(10);
     size_t space = one_in(3) ? below(71) : one_in(2) ? 59 + below(3) : one_in(4) ? below(500) : 61;
 
+    if (one_in(16))
+        spoil_messages(&m);
     if (one_in(8))
         spoil(&p);
     if (one_in(16))
         minute = odd_number(MINUTES - 1);
-    try_write_amplitude(&p, minute, sign, tenths, space);
+    try_amplitude(&p, &m, minute, sign, tenths, space);
 }
 
 /* A minute as it is written, or of random fields; whole or spoiled. */
@@ -765,7 +942,8 @@ static void random_read_amplitude(void)
     if (one_in(2)) {
         struct ref_plan p = random_plan();
         uint32_t minute = random_minute(&p), tenths = below(10);
-        if (ref_write_amplitude(&p, minute, one_in(2) ? 1 : -1, tenths, symbols, 61, &length))
+        if (ref_write_amplitude(&p, NULL, 0, minute, one_in(2) ? 1 : -1, tenths, symbols, 61,
+                                &length))
             abort();
     } else {
         struct fields f = random_fields();
@@ -846,9 +1024,7 @@ static int is_sunday(const wwvb_date_reply *d, uint32_t month, uint32_t from)
 static uint32_t state_sent(const struct ref_plan *p, uint32_t minute)
 {
     uint8_t frame[WWVB_MAX_FRAME], entry[WWVB_ENTRY_SIZE];
-    wwvb_write_reply w = wwvb_write_recording(p->kind, p->spring, p->autumn, p->leap_month,
-                                              p->leap_sign, p->notice, minute, 1, frame,
-                                              sizeof frame);
+    wwvb_write_reply w = write_by(p, NULL, 0, minute, 1, frame, sizeof frame);
 
     if (w.refusal != 0 || wwvb_read_frame(frame, w.bits, entry, sizeof entry) != 0)
         fail(WRITE, "a frame of the clock");
@@ -1007,8 +1183,8 @@ static void boundary_frames(void)
                 recording(&p, 6573599 + next % 2, 1, frame);
                 set_state(frame, state);
                 set_word(frame + 53, next, 6);
-                try_one(frame, length, 12);
-                try_read(frame, length, 12);
+                try_one(frame, length, WWVB_ENTRY_SIZE);
+                try_read(frame, length, WWVB_ENTRY_SIZE);
             }
     /* every one and two places inverted, the echo right and wrong */
     for (place = 0; place <= 31; place++)
@@ -1021,8 +1197,8 @@ static void boundary_frames(void)
                 if (other > place)
                     frame[ref_bit_of_place(other)] ^= 1;
                 frame[19] ^= i / 4;
-                try_one(frame, length, 12);
-                try_read(frame, length, 12);
+                try_one(frame, length, WWVB_ENTRY_SIZE);
+                try_read(frame, length, WWVB_ENTRY_SIZE);
             }
     /* every byte at other values, each length and space */
     for (sign = -1; sign <= 1; sign++) {
@@ -1034,11 +1210,11 @@ static void boundary_frames(void)
                 memset(frame, 0, sizeof frame);
                 length = (unsigned)recording(&p, 6573599, 1, frame);
                 frame[i] = values[other];
-                try_one(frame, length, 12);
-                try_read(frame, length, 12);
+                try_one(frame, length, WWVB_ENTRY_SIZE);
+                try_read(frame, length, WWVB_ENTRY_SIZE);
             }
         for (length = 0; length <= 64; length++)
-            for (space = 0; space <= 26; space++) {
+            for (space = 0; space <= 2 * WWVB_ENTRY_SIZE + 2; space++) {
                 memset(frame, 0, sizeof frame);
                 recording(&p, 6573599, 1, frame);
                 try_one(frame, length, space);
@@ -1130,8 +1306,7 @@ static void boundary_inversions(void)
             size_t length;
             p.leap_sign = sign;
             p.leap_month = sign ? month : 0;
-            w = wwvb_write_recording(p.kind, p.spring, p.autumn, p.leap_month, p.leap_sign, p.notice, minute, 1, bits,
-                                     sizeof bits);
+            w = write_by(&p, NULL, 0, minute, 1, bits, sizeof bits);
             if (w.refusal != 0)
                 fail(WRITE, "the number for a legal plan");
             length = w.bits;
@@ -1153,7 +1328,7 @@ static void boundary_recordings(void)
 {
     static uint8_t bits[ROOM];
     int32_t sign;
-    size_t length, space;
+    size_t length, space, enough = 1000 * WWVB_ENTRY_SIZE;
     uint32_t k;
 
     for (sign = -1; sign <= 1; sign++) {
@@ -1162,21 +1337,21 @@ static void boundary_recordings(void)
         p.leap_month = sign ? 149 : 0;
         for (k = 0; k < 1000; k += 333) {
             length = recording(&p, 6573599 - k, 1000, bits);
-            for (space = 12000 - 13; space <= 12000 + 1; space++)
+            for (space = enough - WWVB_ENTRY_SIZE - 1; space <= enough + 1; space++)
                 try_read(bits, length, space);
             for (space = 0; space < 3; space++)
-                try_read(bits, length - space, 12000);
+                try_read(bits, length - space, enough);
         }
         /* three frames: cut at each bit, the bits before the cut and those from it on */
         length = recording(&p, 6573598, 3, bits);
         for (space = 0; space <= length; space++) {
-            try_read(bits, space, 36);
-            try_read(bits, space, 24);
-            try_read(bits + space, length - space, 36);
+            try_read(bits, space, 3 * WWVB_ENTRY_SIZE);
+            try_read(bits, space, 2 * WWVB_ENTRY_SIZE);
+            try_read(bits + space, length - space, 3 * WWVB_ENTRY_SIZE);
         }
     }
     try_read(bits, 0, 0);
-    try_read(bits, 0, 12);
+    try_read(bits, 0, WWVB_ENTRY_SIZE);
 }
 
 /* The time-word places, of 31, in which two frames differ. */
@@ -1199,13 +1374,22 @@ struct pair_half {
     size_t at[RANKS + 1]; /* where each frame begins, and the last ends */
 };
 
-/* Each frame is received with one place of its time word inverted or none, and any bits at 19, 29
-   and 39. The recording is read as sent. */
-static void try_half(const struct ref_plan *p, uint32_t first, struct pair_half *h)
+/* Whether the frame at a rank is a message. */
+static int is_message(const struct pair_half *h, uint32_t rank)
 {
-    wwvb_write_reply w = wwvb_write_recording(p->kind, p->spring, p->autumn, p->leap_month,
-                                              p->leap_sign, p->notice, first, RANKS, h->written,
-                                              sizeof h->written);
+    return h->sent[rank * WWVB_ENTRY_SIZE + WWVB_ENTRY_KIND] == WWVB_ENTRY_MESSAGE;
+}
+
+/* Each time frame is received with one place of its time word inverted or none, and any bits at
+   19, 29 and 39, and each message as written. The recording is read as sent, unless its first
+   frame is a message. */
+static void try_half(const struct ref_plan *p, const struct messages *m, uint32_t first,
+                     struct pair_half *h)
+{
+    wwvb_write_reply w = write_by(p, m->bytes, m->length, first, RANKS, h->written,
+                                  sizeof h->written);
+    unsigned refusal;
+    size_t which;
     uint32_t k;
 
     if (w.refusal != 0)
@@ -1214,18 +1398,24 @@ static void try_half(const struct ref_plan *p, uint32_t first, struct pair_half 
     h->at[0] = 0;
     for (k = 0; k < RANKS; k++) {
         uint8_t *entry = h->sent + k * WWVB_ENTRY_SIZE;
-        hear(p, first + k, below(32), below(2), h->received + h->at[k], entry);
+        if (has_message(m, first + k, &which))
+            ref_message_as_sent(p, first + k, data_at(m, which), entry);
+        else
+            hear(p, first + k, below(32), below(2), h->received + h->at[k], entry);
         h->at[k + 1] = h->at[k] + entry[WWVB_ENTRY_LENGTH];
     }
     if (h->at[RANKS] != w.bits)
         fail(WRITE, "the number of bits");
-    try_read(h->received, w.bits, sizeof h->sent);
-    if (memcmp(out_buffer.at, h->sent, sizeof h->sent) != 0)
+    refusal = try_read(h->received, w.bits, sizeof h->sent);
+    if (refusal != (is_message(h, 0) ? 19 : 0))
+        fail(READ, "the number for a recording as received");
+    if (!is_message(h, 0) && memcmp(out_buffer.at, h->sent, sizeof h->sent) != 0)
         fail(READ, "the entries as sent");
 }
 
-/* Two recordings by plans of every pair of kinds, with different first minutes: at each rank the frames
-   differ in three places or more as written, and are not equal as received. */
+/* Two recordings by plans of every pair of kinds, with messages or without, and with different
+   first minutes. At each rank without a message the frames differ in three places or more as
+   written, and are not equal as received. */
 static void boundary_pairs(void)
 {
     struct pair_half half[2];
@@ -1235,6 +1425,7 @@ static void boundary_pairs(void)
         uint32_t first[2];
 
         for (j = 0; j < 2; j++) {
+            struct messages m = no_messages;
             struct ref_plan p;
 
             do
@@ -1245,11 +1436,15 @@ static void boundary_pairs(void)
                 first[j] = MINUTES - RANKS - 1;
             if (j && first[1] == first[0])
                 first[1]++;
-            try_half(&p, first[j], &half[j]);
+            if (one_in(2))
+                m = random_messages(first[j], RANKS);
+            try_half(&p, &m, first[j], &half[j]);
         }
         for (k = 0; k < RANKS; k++) {
             size_t a = half[0].at[k], b = half[1].at[k], length = half[0].at[k + 1] - a;
 
+            if (is_message(&half[0], k) || is_message(&half[1], k))
+                continue;
             if (distance(half[0].written + a, half[1].written + b) < 3)
                 fail(WRITE, "the least number of places between two minutes");
             if (length == half[1].at[k + 1] - b
@@ -1499,8 +1694,9 @@ static int same_reading(const wwvb_amplitude_reply *a, const wwvb_entry *e)
         && a->length == e->length;
 }
 
-/* For one plan and minute both codes of the library read to the same date, daylight state and
-   length: the last minute of each month in 59 and in 61 seconds, and as many minutes in 60. */
+/* For one plan and minute without a message both codes of the library read to the same date,
+   daylight state and length: the last minute of each month in 59 and in 61 seconds, and as many
+   minutes in 60. */
 static void boundary_codes(void)
 {
     uint8_t symbols[WWVB_MAX_FRAME], bits[WWVB_MAX_FRAME], entry[WWVB_ENTRY_SIZE];
@@ -1511,16 +1707,19 @@ static void boundary_codes(void)
         for (sign = -1; sign <= 1; sign++) {
             struct ref_plan p = random_plan();
             uint32_t minute = sign ? month_end(month) : random_minute(&p), tenths = below(10);
+            struct messages m = random_messages(minute, 1);
             wwvb_write_reply w, v;
             wwvb_amplitude_reply a;
             wwvb_entry e;
+            size_t which;
+            if (has_message(&m, minute, &which))
+                m = no_messages;
             p.leap_sign = sign;
             p.leap_month = sign ? month : 0;
             w = wwvb_write_amplitude(p.kind, p.spring, p.autumn, p.leap_month, p.leap_sign,
-                                     p.notice, minute, sign ? sign : 1, tenths, symbols,
-                                     sizeof symbols);
-            v = wwvb_write_recording(p.kind, p.spring, p.autumn, p.leap_month, p.leap_sign,
-                                     p.notice, minute, 1, bits, sizeof bits);
+                                     p.notice, m.bytes, m.length, minute, sign ? sign : 1, tenths,
+                                     symbols, sizeof symbols);
+            v = write_by(&p, m.bytes, m.length, minute, 1, bits, sizeof bits);
             count(WRITE_AMPLITUDE, w.refusal);
             if (w.refusal != 0 || v.refusal != 0)
                 fail(WRITE_AMPLITUDE, "the number for a legal plan");
@@ -1537,6 +1736,403 @@ static void boundary_codes(void)
                 || a.warning != (e.leap != WWVB_LEAP_NONE))
                 fail(READ_AMPLITUDE, "UT1 or the warning as sent");
         }
+}
+
+/* ---- boundary cases of messages */
+
+#define AFTERNOON 6578970u  /* 2012-07-04 17:30 */
+#define JUNE 149u           /* June 2012 as a month */
+#define JUNE_ENDS 6573599u  /* its last minute */
+
+/* So many messages in the minutes after one. */
+static struct messages messages_after(uint32_t minute, size_t n)
+{
+    struct messages m = no_messages;
+    size_t i;
+
+    for (i = 1; i <= n; i++)
+        add_message(&m, minute + (uint32_t)i, random_data());
+    return m;
+}
+
+/* Both writings with these messages. */
+static void try_both(const struct messages *m)
+{
+    struct ref_plan p = {0, 10, 37, 0, 0, 0};
+
+    try_messages(&p, m, AFTERNOON, 6, 360);
+    try_amplitude(&p, m, AFTERNOON + 1, 1, 4, 60);
+}
+
+/* Every length of the messages' bytes from 0 to 60, also where later checks would fail. */
+static void boundary_message_lengths(void)
+{
+    struct messages m = messages_after(AFTERNOON, 6);
+    struct ref_plan p = {0, 10, 37, 0, 0, 0};
+
+    for (m.length = 0; m.length <= sizeof m.bytes; m.length++) {
+        try_both(&m);
+        try_messages(&p, &m, AFTERNOON, 0, 0);
+        try_messages(&p, &m, AFTERNOON, 1001, 0);
+        try_messages(&p, &m, MINUTES, 1, 60);
+        try_messages(&p, &m, AFTERNOON, 6, 359);
+        try_amplitude(&p, &m, MINUTES, 0, 10, 0);
+        try_amplitude(&p, &m, AFTERNOON, 1, 10, 60);
+        try_amplitude(&p, &m, AFTERNOON, 1, 4, 59);
+    }
+}
+
+/* Minutes and data at their limits, and minutes that are equal or falling, at each of one to four
+   messages. */
+static void boundary_message_limits(void)
+{
+    static const uint32_t minutes[] = {
+        0, 1, AFTERNOON - 1, AFTERNOON, AFTERNOON + 9, MINUTES - 1, MINUTES, MINUTES + 1, 67108863,
+        0x7fffffffu, 0x80000000u, 0xffffffffu,
+    };
+    static const uint64_t data[] = {
+        0, 1, WWVB_DATA_LIMIT / 2, WWVB_DATA_LIMIT - 1, WWVB_DATA_LIMIT, WWVB_DATA_LIMIT + 1,
+        2 * WWVB_DATA_LIMIT, 32 * WWVB_DATA_LIMIT, 64 * WWVB_DATA_LIMIT - 1,
+    };
+    size_t n, i, k;
+
+    for (n = 1; n <= 4; n++)
+        for (i = 0; i < n; i++) {
+            struct messages m = messages_after(AFTERNOON, n), other;
+
+            for (k = 0; k < sizeof minutes / sizeof *minutes; k++) {
+                other = m;
+                set_minute(&other, i, minutes[k]);
+                try_both(&other);
+            }
+            for (k = 0; k < sizeof data / sizeof *data; k++) {
+                other = m;
+                set_data(&other, i, data[k]);
+                try_both(&other);
+            }
+            for (k = 0; k < 3 * n; k++) { /* that of another, and those beside it */
+                other = m;
+                set_minute(&other, i, minute_at(&m, k / 3) + (uint32_t)(k % 3) - 1);
+                try_both(&other);
+            }
+        }
+}
+
+/* Each byte of four messages at other values. */
+static void boundary_message_bytes(void)
+{
+    static const uint8_t values[] = {0, 1, 3, 4, 100, 127, 128, 254, 255};
+    struct messages m = messages_after(AFTERNOON, 4);
+    size_t i, v;
+
+    for (i = 0; i < m.length; i++)
+        for (v = 0; v < sizeof values; v++) {
+            struct messages other = m;
+
+            other.bytes[i] = values[v];
+            try_both(&other);
+        }
+}
+
+/* Writes a recording and reads it: the entries are those sent, or the first frame is a message and
+   nothing is read. */
+static void try_as_sent(const struct ref_plan *p, const struct messages *m, uint32_t first,
+                        uint32_t n)
+{
+    uint8_t bits[8 * WWVB_MAX_FRAME], sent[8 * WWVB_ENTRY_SIZE];
+    size_t length = try_messages(p, m, first, n, sizeof bits), which;
+    uint32_t k;
+
+    memcpy(bits, out_buffer.at, length);
+    for (k = 0; k < n; k++) {
+        uint8_t *entry = sent + k * WWVB_ENTRY_SIZE;
+
+        if (has_message(m, first + k, &which))
+            ref_message_as_sent(p, first + k, data_at(m, which), entry);
+        else
+            ref_entry_as_sent(p, first + k, 0, 1, entry);
+    }
+    if (try_read(bits, length, n * WWVB_ENTRY_SIZE)
+        != (has_message(m, first, &which) ? WWVB_FIRST_MESSAGE : WWVB_OK))
+        fail(READ, "the number for a recording as sent");
+    if (!has_message(m, first, &which) && memcmp(out_buffer.at, sent, n * WWVB_ENTRY_SIZE) != 0)
+        fail(READ, "the entries as sent");
+}
+
+/* Each bit of the data alone and each missing, by both notices, in an even and an odd minute. */
+static void boundary_message_data(void)
+{
+    struct ref_plan p = {0, 10, 37, 0, 0, 0};
+    uint32_t i, k;
+
+    for (i = 0; i <= 42; i++)
+        for (k = 0; k < 8; k++) {
+            struct messages m = no_messages;
+            uint64_t data = i < 42 ? (uint64_t)1 << i : 0;
+
+            p.notice = k / 2 % 2;
+            add_message(&m, AFTERNOON + 1 + k % 2, k < 4 ? data : WWVB_DATA_LIMIT - 1 - data);
+            try_as_sent(&p, &m, AFTERNOON, 4);
+        }
+}
+
+/* The four minutes about the end of months, by each leap sign, with every set of them as
+   messages. */
+static void boundary_message_months(void)
+{
+    uint32_t month, set, k;
+    int32_t sign;
+
+    for (month = 0; month < 1200; month += month < 24 || month > 1190 ? 1 : 7)
+        for (sign = -1; sign <= 1; sign++)
+            for (set = 0; set < 16; set++) {
+                struct ref_plan p = random_plan();
+                struct messages m = no_messages;
+                uint32_t first = month_end(month) - 2;
+
+                p.leap_sign = sign;
+                p.leap_month = sign ? month : 0;
+                for (k = 0; k < 4; k++)
+                    if (set >> k & 1 && first + k < MINUTES)
+                        add_message(&m, first + k, random_data());
+                try_as_sent(&p, &m, first, month < 1199 ? 4 : 3);
+            }
+}
+
+/* A frame by a plan of the United States with a leap second of a sign in June 2012, or none; as a
+   message, or as a time frame. Gives its length. */
+static size_t june_frame(int32_t sign, uint32_t minute, int message, uint8_t *bits)
+{
+    struct ref_plan p = {0, 10, 37, 0, 0, 1};
+    struct messages m = messages_after(minute - 1, message ? 1 : 0);
+
+    p.leap_sign = sign;
+    p.leap_month = sign ? JUNE : 0;
+    return recording_with(&p, &m, minute, 1, bits);
+}
+
+/* The leap states of two time frames, each after each, or of one before a message; then a message
+   in the last minute of each length, whole and wrong, and a frame after it. */
+static void boundary_message_leaps(void)
+{
+    uint8_t bits[5 * WWVB_MAX_FRAME];
+    uint32_t i, k;
+
+    for (i = 0; i < 3 * 4 * 3 * 3; i++) {
+        int32_t a = (int32_t)(i % 3) - 1, b = (int32_t)(i / 3 % 4) - 1; /* b 2: a message */
+        int32_t c = (int32_t)(i / 12 % 3) - 1;
+        size_t last = june_frame(a, JUNE_ENDS - 2, 0, bits), length;
+
+        last += june_frame(b == 2 ? 0 : b, JUNE_ENDS - 1, b == 2, bits + last);
+        length = last + june_frame(c, JUNE_ENDS, 1, bits + last);
+        if (i / 36)
+            length += june_frame(c, JUNE_ENDS + 1, i / 36 == 2, bits + length);
+        for (k = 0; k < 4; k++) { /* time[0] wrong, and a last bit that is not 0 */
+            bits[last + 19] ^= k & 1;
+            bits[last + 59] ^= k >> 1;
+            try_read(bits, length, 4 * WWVB_ENTRY_SIZE);
+            bits[last + 19] ^= k & 1;
+            bits[last + 59] ^= k >> 1;
+        }
+    }
+}
+
+/* A message between two time frames, in the last minute of June by each leap sign: each byte at
+   other values, cut at each bit, and each entry space. Then the message alone, and before a time
+   frame. */
+static void boundary_message_changes(void)
+{
+    static const uint8_t values[] = {0, 1, 2, 128, 255};
+    uint8_t bits[4 * WWVB_MAX_FRAME];
+    size_t i, v, length, space;
+    int32_t sign;
+
+    for (sign = -1; sign <= 1; sign++) {
+        memset(bits, 0, sizeof bits);
+        length = june_frame(sign, JUNE_ENDS - 1, 0, bits);
+        length += june_frame(sign, JUNE_ENDS, 1, bits + length);
+        length += june_frame(sign, JUNE_ENDS + 1, 0, bits + length);
+        for (i = 0; i < length; i++)
+            for (v = 0; v < sizeof values; v++) {
+                uint8_t was = bits[i];
+
+                bits[i] = values[v];
+                try_read(bits, length, 3 * WWVB_ENTRY_SIZE);
+                try_read(bits + 60, length - 60, 2 * WWVB_ENTRY_SIZE);
+                if (i >= 60)
+                    try_one(bits + 60, (size_t)(60 + sign), WWVB_ENTRY_SIZE);
+                bits[i] = was;
+            }
+        for (i = 0; i <= length; i++) {
+            try_read(bits, i, 3 * WWVB_ENTRY_SIZE);
+            try_read(bits + i, length - i, 3 * WWVB_ENTRY_SIZE);
+            try_one(bits + 60, i, WWVB_ENTRY_SIZE);
+        }
+        for (space = 0; space <= 3 * WWVB_ENTRY_SIZE + 1; space++) {
+            try_read(bits, length, space);
+            try_read(bits + 60, length - 60, space);
+            try_one(bits + 60, 60, space);
+        }
+    }
+}
+
+/* A frame after the last minute of all, as a message and as a time frame, by each leap sign of
+   that month: in each length, with bit 19 either way, and with a last bit that is not 0. */
+static void boundary_message_range(void)
+{
+    uint8_t bits[4 * WWVB_MAX_FRAME];
+    uint32_t i, k;
+    size_t at, length;
+
+    for (i = 0; i < 3 * 4; i++) {
+        struct ref_plan p = {0, 10, 37, 1199, 0, 0};
+        struct messages m = no_messages;
+
+        p.leap_sign = (int32_t)(i % 3) - 1;
+        p.leap_month = p.leap_sign ? 1199 : 0;
+        if (i / 3 % 2)
+            add_message(&m, MINUTES - 1, random_data());
+        memset(bits, 0, sizeof bits);
+        at = recording_with(&p, &m, MINUTES - 2, 2, bits);
+        june_frame(0, JUNE_ENDS, i / 6 == 0, bits + at);
+        for (k = 0; k < 4; k++)
+            for (length = 57; length <= 62; length++) {
+                bits[at + 19] = k & 1;
+                bits[at + 59] = k >> 1;
+                try_read(bits, at + length, 3 * WWVB_ENTRY_SIZE);
+            }
+    }
+}
+
+static void boundary_messages(void)
+{
+    boundary_message_lengths();
+    boundary_message_limits();
+    boundary_message_bytes();
+    boundary_message_data();
+    boundary_message_months();
+    boundary_message_leaps();
+    boundary_message_range();
+    boundary_message_changes();
+}
+
+/* A month of messages after a time frame in the last minute of the month before. */
+struct month {
+    uint32_t first, end; /* the minute of the time frame, and the last minute of the month */
+    size_t last;         /* where the last message begins */
+    size_t length;
+    size_t space; /* for all entries */
+};
+
+static uint8_t month_bits[LONG_ROOM];
+
+/* Where a minute's frame begins; all messages have 60 bits. */
+static size_t start_of(const struct month *m, uint32_t minute)
+{
+    return m->last - (size_t)60 * (m->end - minute);
+}
+
+/* The time frame has a leap second of its month, which tells nothing of the next. */
+static struct month lay_month(uint32_t month, int32_t sign)
+{
+    struct ref_plan p = {1, 0, 0, 0, 0, 0};
+    struct messages one = no_messages;
+    struct month m;
+    uint32_t minute;
+    size_t at;
+
+    m.first = month_end(month - 1);
+    m.end = month_end(month);
+    p.leap_sign = sign;
+    p.leap_month = sign ? month - 1 : 0;
+    at = recording(&p, m.first, 1, month_bits);
+    add_message(&one, m.first + 1, random_data());
+    for (minute = m.first + 1; minute <= m.end; minute++, at += 60) {
+        if (minute == m.first + 1)
+            recording_with(&p, &one, minute, 1, month_bits + at);
+        else
+            memcpy(month_bits + at, month_bits + at - 60, 60);
+        month_bits[at + 19] = minute & 1;
+    }
+    m.last = at - 60;
+    m.length = at;
+    m.space = (size_t)(m.end - m.first + 1) * WWVB_ENTRY_SIZE;
+    return m;
+}
+
+static void expect_month(size_t length, size_t space, unsigned number)
+{
+    if (try_read(month_bits, length, space) != number)
+        fail(READ, "the number for a month of messages");
+}
+
+/* The checks before 20 and after it, at the last message. */
+static void try_unknown(const struct month *m)
+{
+    uint8_t *last = month_bits + m->last;
+
+    expect_month(m->length, m->space, WWVB_UNKNOWN_LENGTH);
+    expect_month(m->length - 1, m->space, WWVB_UNKNOWN_LENGTH);
+    last[59] = 1;
+    expect_month(m->length, m->space, WWVB_UNKNOWN_LENGTH);
+    last[59] = 0;
+    last[19] ^= 1;
+    expect_month(m->length, m->space, WWVB_UNKNOWN_LENGTH);
+    last[19] ^= 1;
+    expect_month(m->length, m->space - 1, WWVB_NO_ENTRY_SPACE);
+    expect_month(m->length - 2, m->space, WWVB_TOO_SHORT);
+    last[49] = 2;
+    expect_month(m->length, m->space, WWVB_NOT_BITS);
+    last[49] = 0;
+    last[12] ^= 1;
+    expect_month(m->length, m->space, WWVB_BAD_SYNC);
+    last[12] ^= 1;
+}
+
+/* One time frame of the month, in a minute, with a leap state: the length of the last message
+   follows it. */
+static void try_known(const struct month *m, uint32_t minute, uint32_t month, int32_t sign)
+{
+    struct ref_plan p = {1, 0, 0, 0, 0, 0};
+    uint8_t *frame = month_bits + start_of(m, minute), was[WWVB_MAX_FRAME];
+    size_t length = m->last + (size_t)(60 + sign);
+
+    p.leap_sign = sign;
+    p.leap_month = sign ? month : 0;
+    memcpy(was, frame, sizeof was);
+    if (recording(&p, minute, 1, frame) != 60)
+        abort();
+    month_bits[m->last + 60] = 0;
+    expect_month(length, m->space, WWVB_OK);
+    expect_month(length - 1, m->space, sign < 0 ? WWVB_TOO_SHORT : WWVB_BAD_LENGTH);
+    memcpy(frame, was, sizeof was);
+}
+
+/* The message in a month's last minute with no time frame of the month read: February 2001, and
+   months of each length, the last of all among them. For valgrind once. */
+static void boundary_unknown_length(void)
+{
+    static const uint32_t months[] = {13, 1, 3, 1199};
+    size_t i;
+    int32_t sign;
+
+    for (i = 0; i < sizeof months / sizeof *months; i++) {
+        struct month m = lay_month(months[i], (int32_t)(i % 3) - 1);
+
+        if (exact) {
+            expect_month(m.length, m.space, WWVB_UNKNOWN_LENGTH);
+            return;
+        }
+        if (i == 0)
+            try_unknown(&m);
+        else
+            expect_month(m.length, m.space, WWVB_UNKNOWN_LENGTH);
+        for (sign = -1; sign <= 1; sign++)
+            if (i == 0 || sign == 1) {
+                try_known(&m, m.first + 1, months[i], sign);
+                try_known(&m, m.end - 1, months[i], sign);
+            }
+    }
 }
 
 /* ---- the bench table of document 01, with the row of document 02 that takes the place of 12 */
@@ -1560,14 +2156,23 @@ static int is_date(uint32_t t, uint32_t year, uint32_t month, uint32_t day, uint
 
 static size_t frame_of(uint32_t month, int32_t sign, uint32_t minute, uint8_t f[61])
 {
-    wwvb_write_reply r = wwvb_write_recording(0, 10, 37, month, sign, 0, minute, 1, f, 61);
-    return r.refusal ? 0 : r.bits;
+    struct ref_plan p = {0, 10, 37, 0, 0, 0};
+
+    p.leap_month = month;
+    p.leap_sign = sign;
+    return write_by(&p, NULL, 0, minute, 1, f, 61).bits;
+}
+
+/* Whether a frame of 60 bits is accepted; gives its entry. */
+static int reads(const uint8_t *f, uint8_t entry[WWVB_ENTRY_SIZE])
+{
+    return wwvb_read_frame(f, 60, entry, WWVB_ENTRY_SIZE) == WWVB_OK;
 }
 
 static int is_daylight(uint32_t minute, unsigned state)
 {
-    uint8_t f[61], e[12];
-    return frame_of(0, 0, minute, f) == 60 && wwvb_read_frame(f, 60, e, 12) == 0 && e[WWVB_ENTRY_DAYLIGHT] == state;
+    uint8_t f[61], e[WWVB_ENTRY_SIZE];
+    return frame_of(0, 0, minute, f) == 60 && reads(f, e) && e[WWVB_ENTRY_DAYLIGHT] == state;
 }
 
 static uint32_t minute_in(const uint8_t *e)
@@ -1590,7 +2195,7 @@ static int has_parity(uint32_t minute, const char *parity)
 static void document(void)
 {
     static const char text[] = "001110110100010010000011001000011000110000110100000110110110";
-    uint8_t f[61], e[12];
+    uint8_t f[61], e[WWVB_ENTRY_SIZE];
     unsigned i;
 
     expect(is_date(0, 2000, 1, 1, 0, 0) && wwvb_minute_to_date(0).weekday == 0, "minute 0");
@@ -1603,22 +2208,23 @@ static void document(void)
     expect(is_daylight(6412319, 0) && is_daylight(6412320, 2) && is_daylight(6413760, 3), "rows 10, 37 in spring");
     expect(is_daylight(6755039, 3) && is_daylight(6755040, 1) && is_daylight(6756480, 0), "rows 10, 37 in autumn");
     expect(frame_of(149, 1, 6573599, f) == 61 && frame_of(149, -1, 6573599, f) == 59, "the leap minute");
-    expect(frame_of(149, 1, 6573600, f) == 60 && wwvb_read_frame(f, 60, e, 12) == 0 && e[WWVB_ENTRY_LEAP] == 0,
+    expect(frame_of(149, 1, 6573600, f) == 60 && reads(f, e) && e[WWVB_ENTRY_LEAP] == 0,
            "the minute after it");
     frame_of(0, 0, 0, f);
     f[46] ^= 1;
-    expect(wwvb_read_frame(f, 60, e, 12) == 0 && minute_in(e) == 0 && e[WWVB_ENTRY_PLACE] == 31 && e[WWVB_ENTRY_ECHO] == 1,
+    expect(reads(f, e) && minute_in(e) == 0 && e[WWVB_ENTRY_PLACE] == 31
+               && e[WWVB_ENTRY_ECHO] == 1,
            "time[0] inverted");
     f[45] ^= 1;
-    expect(wwvb_read_frame(f, 60, e, 12) == 0 && minute_in(e) == 16387 && e[WWVB_ENTRY_PLACE] == 17
+    expect(reads(f, e) && minute_in(e) == 16387 && e[WWVB_ENTRY_PLACE] == 17
                && e[WWVB_ENTRY_ECHO] == 0,
            "time[0] and time[1] inverted");
     f[46] ^= 1;
     f[44] ^= 1;
-    expect(wwvb_read_frame(f, 60, e, 12) == 0 && minute_in(e) == 32774, "time[1] and time[2] inverted");
+    expect(reads(f, e) && minute_in(e) == 32774, "time[1] and time[2] inverted");
     frame_of(0, 0, 0, f);
     set_state(f, 2);
-    expect(wwvb_read_frame(f, 60, e, 12) == WWVB_BAD_STATE, "state word 00010");
+    expect(wwvb_read_frame(f, 60, e, sizeof e) == WWVB_BAD_STATE, "state word 00010");
     expect(frame_of(0, 0, 6578970, f) == 60, "the frame of station's example");
     for (i = 0; i < 60; i++)
         expect(f[i] == text[i] - '0', "the frame of station's example");
@@ -1641,12 +2247,13 @@ static int report(void)
         printf("\n");
     }
     printf("%-22s", "  after a frame read");
-    for (n = 5; n <= 14; n++)
-        if (can_give(READ, n)) {
+    for (n = 5; n < NUMBERS; n++)
+        if (can_give(READ, n) && n != 19) { /* 19 is about the first frame alone */
             printf(" %u:%lu", n, later[n]);
             missing += later[n] == 0;
         }
     printf("\n");
+    missing += later[19] != 0;
     for (c = WRITE; c < CALLS; c++) {
         printf("%-22s lengths", call_names[c]);
         for (n = 59; n <= 61; n++) {
@@ -1655,7 +2262,17 @@ static int report(void)
         }
         printf("\n");
     }
-    printf("%-22s", "accepted plans");
+    printf("%-22s lengths", "messages read");
+    for (n = 59; n <= 61; n++) {
+        printf(" %u:%lu", n, message_lengths[n]);
+        missing += message_lengths[n] == 0;
+    }
+    printf("\n%-22s", "accepted plans");
+    for (n = 0; n < 5; n++) {
+        printf(" %u messages:%lu", n, message_counts[n]);
+        missing += message_counts[n] == 0;
+    }
+    printf("\n%-22s", "accepted plans");
     for (n = 0; n < 4; n++) {
         printf(" kind %u:%lu", n, kinds[n]);
         missing += kinds[n] == 0;
@@ -1663,7 +2280,7 @@ static int report(void)
     printf(" kind 3 from 2007:%lu\n", own_rows);
     missing += own_rows == 0;
     if (missing)
-        fprintf(stderr, "compare: %d numbers, lengths or kinds were never seen\n", missing);
+        fprintf(stderr, "compare: %d numbers, lengths or plans were never seen\n", missing);
     return missing;
 }
 
@@ -1679,6 +2296,7 @@ int main(int argc, char **argv)
         noise[i] = (uint8_t)rnd();
     make(&in_buffer);
     make(&out_buffer);
+    make(&message_buffer);
     document();
     boundary_dates();
     boundary_local();
@@ -1699,8 +2317,10 @@ int main(int argc, char **argv)
         boundary_pairs();
         boundary_amplitude();
         boundary_codes();
+        boundary_messages();
     }
     boundary_recordings();
+    boundary_unknown_length();
     boundary = cases;
     while (cases - boundary < wanted) {
         random_dates();

@@ -6,6 +6,11 @@
  * bytes that must not change are compared with those before it. Each case is played twice, with
  * other bytes in and around the buffers.
  *
+ * A writing is played by the call with numbers, which takes messages as bytes, and by the inline
+ * form of it, which takes a plan as a struct. The six bytes of a message's data do not hold every
+ * number that a file may have. A case with a larger one is played by the struct alone, and a line
+ * of standard output says how many these are.
+ *
  * usage: play FILE..
  * A case fails if the answer is another one, the form is not known, a number is out of range, or
  * the line cannot be read whole. The last line may end without a line feed. A file that cannot be
@@ -28,6 +33,8 @@
 #define GUARD 64     /* guard bytes on either side of a buffer */
 #define LONGER 40    /* bytes more, where a call is tried again with a longer buffer */
 #define MOST 1000000 /* the longest buffer that a line may ask for */
+#define MESSAGES 100 /* the most messages of a plan that a line may have */
+#define RUN 100000   /* the most frames of a run */
 
 static void *room_for(size_t bytes)
 {
@@ -155,10 +162,12 @@ static uint64_t digits_of(struct line *l, const char *w, uint64_t most)
     if (*w == 0 || (w[0] == '0' && w[1] != 0) || w[strspn(w, "0123456789")] != 0)
         find_fault(l, not_whole);
     for (; *w && !l->fault; w++) {
-        if (n > (most - (uint64_t)(*w - '0')) / 10)
+        uint64_t digit = (uint64_t)(*w - '0');
+
+        if (digit > most || n > (most - digit) / 10)
             find_fault(l, out_of_range);
         else
-            n = n * 10 + (uint64_t)(*w - '0');
+            n = n * 10 + digit;
     }
     return n;
 }
@@ -166,6 +175,11 @@ static uint64_t digits_of(struct line *l, const char *w, uint64_t most)
 static uint32_t number(struct line *l)
 {
     return (uint32_t)digits_of(l, word(l), UINT32_MAX);
+}
+
+static uint32_t number_to(struct line *l, uint32_t most)
+{
+    return (uint32_t)digits_of(l, word(l), most);
 }
 
 static int32_t signed_number(struct line *l)
@@ -242,6 +256,19 @@ static struct bytes hex(struct line *l)
     return b;
 }
 
+/* The number of inputs that are left before the equals sign. */
+static size_t inputs_left(const struct line *l)
+{
+    const char *w = l->next;
+    size_t n = 0;
+
+    for (; w && !(w[0] == '=' && (w[1] == ' ' || w[1] == 0)); n++) {
+        w = strchr(w, ' ');
+        w = w ? w + 1 : NULL;
+    }
+    return n;
+}
+
 /* Ends the inputs: whether all could be read and an answer follows. */
 static int inputs_end(struct line *l)
 {
@@ -296,65 +323,174 @@ static void done_with(struct buffer *b, size_t n, struct text *got)
     free(b->before);
 }
 
-/* ---- the forms: each takes its inputs from the line and says what the library gives */
+/* ---- plans */
 
-static wwvb_plan plan(struct line *l)
+/* A plan. Its messages are in the struct and in bytes; if a plan has too many for the struct, the
+   first of them are there. */
+struct plan {
+    wwvb_plan fields;
+    uint8_t messages[MESSAGES * WWVB_MESSAGE_SIZE];
+    size_t messages_length;
+    int too_wide; /* data that the bytes do not hold: the struct alone can be played */
+};
+
+static unsigned long too_wide_cases;
+
+static void add_message(struct plan *p, uint32_t i, uint32_t minute, uint64_t data)
 {
-    wwvb_plan p;
+    uint8_t *bytes = p->messages + i * WWVB_MESSAGE_SIZE;
+    uint32_t k;
 
-    p.kind = number(l);
-    p.spring = number(l);
-    p.autumn = number(l);
-    p.leap_month = number(l);
-    p.leap_sign = signed_number(l);
-    p.notice = number(l);
+    if (i < WWVB_MAX_MESSAGES) {
+        p->fields.messages[i].minute = minute;
+        p->fields.messages[i].data = data;
+    }
+    for (k = 0; k < 4; k++)
+        bytes[k] = (uint8_t)(minute >> (24 - 8 * k));
+    for (k = 0; k < 6; k++)
+        bytes[4 + k] = (uint8_t)(data >> (40 - 8 * k));
+    p->messages_length += WWVB_MESSAGE_SIZE;
+    p->too_wide |= data >> 48 != 0;
+}
+
+/* PLAN: six numbers, and in files from 07 on the number of messages and for each its minute and
+   its data. No word of a line says which of the two it has. So its inputs are counted: if six are
+   left beside those after the plan, the plan has no number of messages, and no messages. */
+static struct plan plan(struct line *l, size_t inputs_after)
+{
+    int has_number = inputs_left(l) != 6 + inputs_after;
+    struct plan p;
+    uint32_t i;
+
+    memset(&p, 0, sizeof p);
+    p.fields.kind = number(l);
+    p.fields.spring = number(l);
+    p.fields.autumn = number(l);
+    p.fields.leap_month = number(l);
+    p.fields.leap_sign = signed_number(l);
+    p.fields.notice = number(l);
+    p.fields.message_count = has_number ? number_to(l, MESSAGES) : 0;
+    for (i = 0; i < p.fields.message_count && !l->fault; i++) {
+        uint32_t minute = number(l);
+
+        add_message(&p, i, minute, digits_of(l, word(l), UINT64_MAX));
+    }
+    too_wide_cases += p.too_wide && filling == 0;
     return p;
 }
 
-static wwvb_write_reply write_minute(const wwvb_plan *p, uint32_t minute, int32_t sign,
-                                     uint32_t tenths, const struct buffer *out)
+/* ---- the forms: each takes its inputs from the line and says what the library gives */
+
+/* What is written: frames, or a minute in the amplitude code. */
+struct writing {
+    struct plan plan;
+    int amplitude;
+    uint32_t minute; /* of frames the first */
+    uint32_t count;  /* of frames */
+    int32_t sign;    /* of UT1, and its tenths, in the amplitude code */
+    uint32_t tenths;
+};
+
+static wwvb_write_reply write_by_numbers(const struct writing *w, const struct buffer *messages,
+                                         const struct buffer *out)
 {
-    return wwvb_write_amplitude(p->kind, p->spring, p->autumn, p->leap_month, p->leap_sign,
-                                p->notice, minute, sign, tenths, out->at, out->length);
+    const wwvb_plan *p = &w->plan.fields;
+
+    if (w->amplitude)
+        return wwvb_write_amplitude(p->kind, p->spring, p->autumn, p->leap_month, p->leap_sign,
+                                    p->notice, messages->at, messages->length, w->minute, w->sign,
+                                    w->tenths, out->at, out->length);
+    return wwvb_write_recording(p->kind, p->spring, p->autumn, p->leap_month, p->leap_sign,
+                                p->notice, messages->at, messages->length, w->minute, w->count,
+                                out->at, out->length);
 }
 
-/* What a writing gave, and the bits or symbols in its buffer. */
-static void say_written(wwvb_write_reply r, struct buffer *out, struct text *got)
+static wwvb_write_reply write_by_struct(const struct writing *w, const struct buffer *out)
 {
+    if (w->amplitude)
+        return wwvb_write_amplitude_by_plan(&w->plan.fields, w->minute, w->sign, w->tenths,
+                                            out->at, out->length);
+    return wwvb_write(&w->plan.fields, w->minute, w->count, out->at, out->length);
+}
+
+/* By the struct too where the call with numbers cannot take the data. */
+static wwvb_write_reply written_by(const struct writing *w, int by_struct,
+                                   const struct buffer *messages, const struct buffer *out)
+{
+    if (by_struct || w->plan.too_wide)
+        return write_by_struct(w, out);
+    return write_by_numbers(w, messages, out);
+}
+
+static struct buffer messages_of(const struct writing *w)
+{
+    return buffer_of(w->plan.messages, w->plan.messages_length);
+}
+
+/* What a writing gives, and the bits or symbols in its buffer. */
+static void say_writing(const struct writing *w, int by_struct, size_t length, struct text *got)
+{
+    struct buffer messages = messages_of(w), out = buffer_of(NULL, length);
+    wwvb_write_reply r = written_by(w, by_struct, &messages, &out);
+
     say(got, "%zu %zu ", r.refusal, r.bits);
-    say_digits(got, out->at, r.bits <= out->length ? r.bits : out->length);
-    done_with(out, r.refusal ? 0 : r.bits, got);
+    say_digits(got, out.at, r.bits <= length ? r.bits : length);
+    done_with(&out, r.refusal ? 0 : r.bits, got);
+    done_with(&messages, 0, got);
 }
 
-static void say_writing(const wwvb_plan *p, uint32_t minute, int32_t sign, uint32_t tenths,
-                        size_t length, struct text *got)
+/* The same writing in another way, with the same answer. */
+static void write_again(const struct writing *w, int by_struct, size_t length, const char *how,
+                        struct text *got)
 {
-    struct buffer out = buffer_of(NULL, length);
-
-    say_written(write_minute(p, minute, sign, tenths, &out), &out, got);
-}
-
-/* write-amplitude PLAN MINUTE UT1-SIGN TENTHS BUFFER-LENGTH = REFUSAL COUNT SYMBOLS
-   What is accepted is written again in a longer buffer, with the same answer. */
-static void write_amplitude(struct line *l, struct text *got)
-{
-    wwvb_plan p = plan(l);
-    uint32_t minute = number(l);
-    int32_t sign = signed_number(l);
-    uint32_t tenths = number(l);
-    size_t length = space(l);
     struct text again = {NULL, 0, 0};
 
-    if (!inputs_end(l))
-        return;
-    say_writing(&p, minute, sign, tenths, length, got);
-    if (strncmp(got->at, "0 ", 2) != 0)
-        return;
     clear(&again);
-    say_writing(&p, minute, sign, tenths, length + LONGER, &again);
+    say_writing(w, by_struct, length, &again);
     if (strcmp(got->at, again.at) != 0)
-        say(got, ", and in a longer buffer %s", again.at);
+        say(got, ", and %s %s", how, again.at);
     free(again.at);
+}
+
+/* By numbers and by the struct; what is accepted, in a longer buffer too. */
+static void play_writing(const struct writing *w, size_t length, struct text *got)
+{
+    say_writing(w, 0, length, got);
+    write_again(w, 1, length, "by the struct", got);
+    if (strncmp(got->at, "0 ", 2) == 0)
+        write_again(w, 0, length + LONGER, "in a longer buffer", got);
+}
+
+/* write-amplitude PLAN MINUTE UT1-SIGN TENTHS BUFFER-LENGTH = REFUSAL COUNT SYMBOLS */
+static void write_amplitude(struct line *l, struct text *got)
+{
+    struct writing w;
+    size_t length;
+
+    memset(&w, 0, sizeof w);
+    w.amplitude = 1;
+    w.plan = plan(l, 4);
+    w.minute = number(l);
+    w.sign = signed_number(l);
+    w.tenths = number(l);
+    length = space(l);
+    if (inputs_end(l))
+        play_writing(&w, length, got);
+}
+
+/* write-recording PLAN FIRST COUNT BUFFER-LENGTH = REFUSAL COUNT BITS */
+static void write_recording(struct line *l, struct text *got)
+{
+    struct writing w;
+    size_t length;
+
+    memset(&w, 0, sizeof w);
+    w.plan = plan(l, 3);
+    w.minute = number(l);
+    w.count = number(l);
+    length = space(l);
+    if (inputs_end(l))
+        play_writing(&w, length, got);
 }
 
 static void say_date(struct text *t, uint32_t year, uint32_t month, uint32_t day, uint32_t hour,
@@ -413,89 +549,92 @@ static void read_amplitude_bytes(struct line *l, struct text *got)
 }
 
 /* A minute written in the amplitude code and read. */
-static void say_by_amplitude(const wwvb_plan *p, uint32_t minute, int32_t sign, uint32_t tenths,
-                             struct text *got)
+static void say_by_amplitude(const struct writing *w, struct text *got)
 {
-    struct buffer out = buffer_of(NULL, WWVB_MAX_FRAME), in;
-    wwvb_write_reply w = write_minute(p, minute, sign, tenths, &out);
+    struct buffer messages = messages_of(w), out = buffer_of(NULL, WWVB_MAX_FRAME), in;
+    wwvb_write_reply written = written_by(w, 0, &messages, &out);
     wwvb_amplitude_reply r;
 
-    if (w.refusal != WWVB_OK || w.bits > out.length) {
-        say(got, "writing gives %zu and %zu symbols", w.refusal, w.bits);
-        done_with(&out, 0, got);
-        return;
-    }
-    in = buffer_of(out.at, w.bits);
-    r = wwvb_read_amplitude(in.at, in.length);
-    if (r.refusal != WWVB_OK) {
-        say(got, "reading gives %" PRIu32, r.refusal);
+    if (written.refusal != WWVB_OK || written.bits > out.length) {
+        say(got, "writing gives %zu and %zu symbols", written.refusal, written.bits);
+        written.bits = 0;
     } else {
-        say_date(got, r.year, r.month, r.day, r.hour, r.minute, r.weekday);
-        say(got, " ");
-        say_daylight(got, r.daylight);
-        say(got, " %" PRIu32, r.length);
-        if (r.length != w.bits)
-            say(got, ", and %zu symbols are written", w.bits);
-        if (r.ut1_sign != sign || r.ut1_tenths != tenths)
-            say(got, ", and UT1 is not as sent");
+        in = buffer_of(out.at, written.bits);
+        r = wwvb_read_amplitude(in.at, in.length);
+        if (r.refusal != WWVB_OK) {
+            say(got, "reading gives %" PRIu32, r.refusal);
+        } else {
+            say_date(got, r.year, r.month, r.day, r.hour, r.minute, r.weekday);
+            say(got, " ");
+            say_daylight(got, r.daylight);
+            say(got, " %" PRIu32, r.length);
+            if (r.length != written.bits)
+                say(got, ", and %zu symbols are written", written.bits);
+            if (r.ut1_sign != w->sign || r.ut1_tenths != w->tenths)
+                say(got, ", and UT1 is not as sent");
+        }
+        done_with(&in, 0, got);
     }
-    done_with(&in, 0, got);
-    done_with(&out, w.bits, got);
+    done_with(&out, written.bits, got);
+    done_with(&messages, 0, got);
 }
 
-static wwvb_write_reply write_frames(const wwvb_plan *p, uint32_t first, uint32_t count,
-                                     const struct buffer *out)
+/* Says what of an entry is not as sent, but for what the caller says: daylight, leap, row and
+   length. */
+static void find_faults(const wwvb_entry *e, const struct writing *w, size_t bits,
+                        struct text *faults)
 {
-    return wwvb_write_recording(p->kind, p->spring, p->autumn, p->leap_month, p->leap_sign,
-                                p->notice, first, count, out->at, out->length);
+    if (e->length != bits)
+        say(faults, ", and %zu bits are written", bits);
+    if (e->minute != w->minute)
+        say(faults, ", and the minute read is %" PRIu32, e->minute);
+    if (e->notice != w->plan.fields.notice)
+        say(faults, ", and the notice read is %" PRIu32, e->notice);
+    if (e->place != 0)
+        say(faults, ", and place %" PRIu32 " is repaired", e->place);
+    if (e->echo != 1)
+        say(faults, ", and the echo is %" PRIu32, e->echo);
+    if (e->kind != WWVB_ENTRY_TIME || e->data != 0)
+        say(faults, ", and the entry is not that of a time frame");
 }
 
 /* Writes a minute's frame, as a recording of one, and reads it. Gives whether both are accepted,
-   and the entry. The faults are whatever is not as sent, but for what the caller says: daylight,
-   leap, row and length. */
-static int by_phase(const wwvb_plan *p, uint32_t minute, wwvb_entry *e, struct text *faults)
+   and the entry, and says the faults. */
+static int by_phase(const struct writing *w, wwvb_entry *e, struct text *faults)
 {
-    struct buffer out = buffer_of(NULL, WWVB_MAX_FRAME), in, entry;
-    wwvb_write_reply w = write_frames(p, minute, 1, &out);
-    uint32_t refusal;
+    struct buffer messages = messages_of(w), out = buffer_of(NULL, WWVB_MAX_FRAME), in, entry;
+    wwvb_write_reply written = written_by(w, 0, &messages, &out);
+    uint32_t refusal = WWVB_ILLEGAL_PLAN;
 
-    if (w.refusal != WWVB_OK || w.bits > out.length) {
-        say(faults, "writing gives %zu and %zu bits", w.refusal, w.bits);
-        done_with(&out, 0, faults);
-        return 0;
-    }
-    in = buffer_of(out.at, w.bits);
-    entry = buffer_of(NULL, WWVB_ENTRY_SIZE + (filling ? LONGER : 0));
-    refusal = wwvb_read_frame(in.at, in.length, entry.at, entry.length);
-    if (refusal != WWVB_OK) {
-        say(faults, "reading gives %" PRIu32, refusal);
+    if (written.refusal != WWVB_OK || written.bits > out.length) {
+        say(faults, "writing gives %zu and %zu bits", written.refusal, written.bits);
+        written.bits = 0;
     } else {
-        *e = wwvb_entry_at(entry.at, 0);
-        if (e->length != w.bits)
-            say(faults, ", and %zu bits are written", w.bits);
-        if (e->minute != minute)
-            say(faults, ", and the minute read is %" PRIu32, e->minute);
-        if (e->notice != p->notice)
-            say(faults, ", and the notice read is %" PRIu32, e->notice);
-        if (e->place != 0)
-            say(faults, ", and place %" PRIu32 " is repaired", e->place);
-        if (e->echo != 1)
-            say(faults, ", and the echo is %" PRIu32, e->echo);
+        in = buffer_of(out.at, written.bits);
+        entry = buffer_of(NULL, WWVB_ENTRY_SIZE + (filling ? LONGER : 0));
+        refusal = wwvb_read_frame(in.at, in.length, entry.at, entry.length);
+        if (refusal != WWVB_OK) {
+            say(faults, "reading gives %" PRIu32, refusal);
+        } else {
+            *e = wwvb_entry_at(entry.at, 0);
+            find_faults(e, w, written.bits, faults);
+        }
+        done_with(&entry, refusal ? 0 : WWVB_ENTRY_SIZE, faults);
+        done_with(&in, 0, faults);
     }
-    done_with(&entry, refusal ? 0 : WWVB_ENTRY_SIZE, faults);
-    done_with(&in, 0, faults);
-    done_with(&out, w.bits, faults);
+    done_with(&out, written.bits, faults);
+    done_with(&messages, 0, faults);
     return refusal == WWVB_OK;
 }
 
 /* A minute written in the phase code and read. */
-static void say_by_phase(const wwvb_plan *p, uint32_t minute, struct text *got)
+static void say_by_phase(const struct writing *w, struct text *got)
 {
     struct text faults = {NULL, 0, 0};
     wwvb_entry e;
 
     clear(&faults);
-    if (by_phase(p, minute, &e, &faults)) {
+    if (by_phase(w, &e, &faults)) {
         wwvb_date_reply d = wwvb_minute_to_date(e.minute);
 
         say_date(got, d.year, d.month, d.day, d.hour, d.minute, d.weekday);
@@ -511,15 +650,18 @@ static void say_by_phase(const wwvb_plan *p, uint32_t minute, struct text *got)
    No call gives these alone, so the minute's frame is written and read. */
 static void plan_at(struct line *l, struct text *got)
 {
-    wwvb_plan p = plan(l);
-    uint32_t minute = number(l);
     struct text faults = {NULL, 0, 0};
+    struct writing w;
     wwvb_entry e;
 
+    memset(&w, 0, sizeof w);
+    w.plan = plan(l, 1);
+    w.minute = number(l);
+    w.count = 1;
     if (!inputs_end(l))
         return;
     clear(&faults);
-    if (by_phase(&p, minute, &e, &faults)) {
+    if (by_phase(&w, &e, &faults)) {
         say_daylight(got, e.daylight);
         say(got, " %" PRIu32 " %" PRIu32 " %" PRIu32, e.leap, e.row, e.length);
     }
@@ -527,42 +669,95 @@ static void plan_at(struct line *l, struct text *got)
     free(faults.at);
 }
 
-static void say_frames(const wwvb_plan *p, uint32_t first, uint32_t count, size_t length,
-                       struct text *got)
+/* both-codes PLAN MINUTE UT1-SIGN TENTHS
+   = YEAR MONTH DAY HOUR MINUTE WEEKDAY DAYLIGHT LENGTH, by both readings */
+static void both_codes(struct line *l, struct text *got)
 {
-    struct buffer out = buffer_of(NULL, length);
+    struct text phase = {NULL, 0, 0};
+    struct writing w;
 
-    say_written(write_frames(p, first, count, &out), &out, got);
-}
-
-/* write-recording PLAN FIRST COUNT BUFFER-LENGTH = REFUSAL COUNT BITS
-   What is accepted is written again in a longer buffer, with the same answer. */
-static void write_recording(struct line *l, struct text *got)
-{
-    wwvb_plan p = plan(l);
-    uint32_t first = number(l);
-    uint32_t count = number(l);
-    size_t length = space(l);
-    struct text again = {NULL, 0, 0};
-
+    memset(&w, 0, sizeof w);
+    w.plan = plan(l, 3);
+    w.minute = number(l);
+    w.sign = signed_number(l);
+    w.tenths = number(l);
+    w.count = 1;
     if (!inputs_end(l))
         return;
-    say_frames(&p, first, count, length, got);
-    if (strncmp(got->at, "0 ", 2) != 0)
+    clear(&phase);
+    w.amplitude = 1;
+    say_by_amplitude(&w, got);
+    w.amplitude = 0;
+    say_by_phase(&w, &phase);
+    if (strcmp(got->at, phase.at) != 0)
+        say(got, " by the amplitude code; by the phase code %s", phase.at);
+    free(phase.at);
+}
+
+/* Reads bits with so much entry space and says the answer; gives the refusal. */
+typedef size_t say_read(const struct bytes *b, size_t length, struct text *got);
+
+/* Unless space for an entry is missing, the bits are read again with more space, with the same
+   answer. */
+static void play_reading(const struct bytes *b, size_t length, say_read *reading, struct text *got)
+{
+    struct text again = {NULL, 0, 0};
+
+    if (reading(b, length, got) == WWVB_NO_ENTRY_SPACE)
         return;
     clear(&again);
-    say_frames(&p, first, count, length + LONGER, &again);
+    reading(b, length + LONGER, &again);
     if (strcmp(got->at, again.at) != 0)
-        say(got, ", and in a longer buffer %s", again.at);
+        say(got, ", and with more space %s", again.at);
     free(again.at);
 }
 
-/* Reads a recording with so much entry space; gives the refusal. */
+/* The bits, then the entry space, then the answer. */
+static void take_reading(struct line *l, struct bytes b, say_read *reading, struct text *got)
+{
+    size_t length = space(l);
+
+    if (inputs_end(l))
+        play_reading(&b, length, reading, got);
+    free(b.at);
+}
+
+static size_t say_frame(const struct bytes *b, size_t length, struct text *got)
+{
+    struct buffer in = buffer_of(b->at, b->length), entry = buffer_of(NULL, length);
+    uint32_t refusal = wwvb_read_frame(in.at, in.length, entry.at, entry.length);
+    size_t bytes = refusal ? 0 : WWVB_ENTRY_SIZE <= length ? WWVB_ENTRY_SIZE : length;
+
+    say(got, "%" PRIu32 " ", refusal);
+    say_hex(got, entry.at, bytes);
+    done_with(&entry, bytes, got);
+    done_with(&in, 0, got);
+    return refusal;
+}
+
+/* read-frame BITS ENTRY-SPACE = REFUSAL ENTRY-IN-HEX */
+static void read_frame(struct line *l, struct text *got)
+{
+    take_reading(l, symbols(l), say_frame, got);
+}
+
+/* read-frame-bytes HEX ENTRY-SPACE, with the same answers */
+static void read_frame_bytes(struct line *l, struct text *got)
+{
+    take_reading(l, hex(l), say_frame, got);
+}
+
+/* The bytes of the entries that a reading gives, but no more than there are in the buffer. */
+static size_t entry_bytes(const wwvb_read_reply *r, size_t length)
+{
+    return r->entries <= length / WWVB_ENTRY_SIZE ? r->entries * WWVB_ENTRY_SIZE : length;
+}
+
 static size_t say_entries(const struct bytes *b, size_t length, struct text *got)
 {
     struct buffer in = buffer_of(b->at, b->length), entries = buffer_of(NULL, length);
     wwvb_read_reply r = wwvb_read_recording(in.at, in.length, entries.at, entries.length);
-    size_t bytes = r.entries <= length / WWVB_ENTRY_SIZE ? r.entries * WWVB_ENTRY_SIZE : length;
+    size_t bytes = entry_bytes(&r, length);
 
     say(got, "%zu %zu %zu ", r.entries, r.used, r.refusal);
     say_hex(got, entries.at, bytes);
@@ -571,43 +766,114 @@ static size_t say_entries(const struct bytes *b, size_t length, struct text *got
     return r.refusal;
 }
 
-/* read-recording BITS ENTRY-SPACE = ENTRIES BITS-USED REFUSAL ENTRIES-IN-HEX
-   Unless space for an entry is missing, the bits are read again with more space, with the same
-   answer. */
+/* read-recording BITS ENTRY-SPACE = ENTRIES BITS-USED REFUSAL ENTRIES-IN-HEX */
 static void read_recording(struct line *l, struct text *got)
 {
-    struct bytes b = symbols(l);
-    size_t length = space(l);
-    struct text again = {NULL, 0, 0};
-
-    if (inputs_end(l) && say_entries(&b, length, got) != WWVB_NO_ENTRY_SPACE) {
-        clear(&again);
-        say_entries(&b, length + LONGER, &again);
-        if (strcmp(got->at, again.at) != 0)
-            say(got, ", and with more space %s", again.at);
-        free(again.at);
-    }
-    free(b.at);
+    take_reading(l, symbols(l), say_entries, got);
 }
 
-/* both-codes PLAN MINUTE UT1-SIGN TENTHS
-   = YEAR MONTH DAY HOUR MINUTE WEEKDAY DAYLIGHT LENGTH, by both readings */
-static void both_codes(struct line *l, struct text *got)
+/* read-recording-bytes HEX ENTRY-SPACE, with the same answers */
+static void read_recording_bytes(struct line *l, struct text *got)
 {
-    wwvb_plan p = plan(l);
-    uint32_t minute = number(l);
-    int32_t sign = signed_number(l);
-    uint32_t tenths = number(l);
-    struct text phase = {NULL, 0, 0};
+    take_reading(l, hex(l), say_entries, got);
+}
 
-    if (!inputs_end(l))
-        return;
-    clear(&phase);
-    say_by_amplitude(&p, minute, sign, tenths, got);
-    say_by_phase(&p, minute, &phase);
-    if (strcmp(got->at, phase.at) != 0)
-        say(got, " by the amplitude code; by the phase code %s", phase.at);
-    free(phase.at);
+/* The message frames of a run: from a bit on, so many, of 60 bits. */
+struct run {
+    size_t from;
+    uint32_t first, notice, times;
+    uint64_t data;
+};
+
+static struct run the_run;
+
+static void put_message(uint8_t *frame, uint32_t minute)
+{
+    static const char sync[] = "1101000111010";
+    int i, left = 42; /* data bits that are not put yet */
+
+    for (i = 0; i < 60; i++)
+        frame[i] = i < 13 ? (uint8_t)(sync[i] - '0') : 0;
+    for (i = 13; i < 59; i++)
+        if (i % 10 != 9) /* 19, 29, 39 and 49 are not data */
+            frame[i] = (uint8_t)(the_run.data >> --left & 1);
+    frame[19] = minute & 1;
+    frame[49] = (uint8_t)the_run.notice;
+}
+
+/* BITS, the run, and TAIL, one after the other. */
+static struct bytes with_run(const struct bytes *bits, const struct bytes *tail)
+{
+    struct bytes b = {NULL, 0};
+    uint32_t i;
+
+    b.at = room_for(bits->length + (size_t)60 * the_run.times + tail->length);
+    memcpy(b.at, bits->at, bits->length);
+    b.length = bits->length;
+    for (i = 0; i < the_run.times; i++, b.length += 60)
+        put_message(b.at + b.length, the_run.first + i);
+    memcpy(b.at + b.length, tail->at, tail->length);
+    b.length += tail->length;
+    return b;
+}
+
+/* The answer has the last entry alone, so the others are looked at here: the minutes rise by one,
+   and the entries of the run have its notice and its data. */
+static void say_run_faults(const uint8_t *entries, size_t n, struct text *got)
+{
+    size_t i, at = 0;
+
+    for (i = 0; i < n; i++) {
+        wwvb_entry e = wwvb_entry_at(entries, i);
+        int in_run = at >= the_run.from && at < the_run.from + (size_t)60 * the_run.times;
+
+        if (i > 0 && e.minute != wwvb_entry_at(entries, i - 1).minute + 1)
+            say(got, ", and entry %zu is out of order", i);
+        if (in_run && (e.kind != WWVB_ENTRY_MESSAGE || e.length != 60 || e.daylight || e.leap
+                       || e.row || e.place || e.echo != 1 || e.notice != the_run.notice
+                       || e.data != the_run.data))
+            say(got, ", and entry %zu is not that of the run", i);
+        at += e.length;
+    }
+}
+
+static size_t say_run(const struct bytes *b, size_t length, struct text *got)
+{
+    struct buffer in = buffer_of(b->at, b->length), entries = buffer_of(NULL, length);
+    wwvb_read_reply r = wwvb_read_recording(in.at, in.length, entries.at, entries.length);
+    size_t bytes = entry_bytes(&r, length), n = bytes / WWVB_ENTRY_SIZE;
+
+    say(got, "%zu %zu %zu ", r.entries, r.used, r.refusal);
+    say_hex(got, entries.at + (n ? n - 1 : 0) * WWVB_ENTRY_SIZE, n ? WWVB_ENTRY_SIZE : 0);
+    say_run_faults(entries.at, n, got);
+    done_with(&entries, bytes, got);
+    done_with(&in, 0, got);
+    return r.refusal;
+}
+
+/* read-run BITS FIRST NOTICE DATA TIMES TAIL ENTRY-SPACE
+   = ENTRIES BITS-USED REFUSAL LAST-ENTRY-IN-HEX
+   The recording is BITS, then TIMES message frames of 60 bits for the minutes from FIRST on, then
+   TAIL. */
+static void read_run(struct line *l, struct text *got)
+{
+    struct bytes bits = symbols(l), tail, all;
+    size_t length;
+
+    the_run.from = bits.length;
+    the_run.first = number(l);
+    the_run.notice = number_to(l, 1);
+    the_run.data = digits_of(l, word(l), WWVB_DATA_LIMIT - 1);
+    the_run.times = number_to(l, RUN);
+    tail = symbols(l);
+    length = space(l);
+    if (inputs_end(l)) {
+        all = with_run(&bits, &tail);
+        play_reading(&all, length, say_run, got);
+        free(all.at);
+    }
+    free(tail.at);
+    free(bits.at);
 }
 
 static const struct form {
@@ -620,7 +886,11 @@ static const struct form {
     {"both-codes", both_codes},
     {"plan-at", plan_at},
     {"write-recording", write_recording},
+    {"read-frame", read_frame},
+    {"read-frame-bytes", read_frame_bytes},
     {"read-recording", read_recording},
+    {"read-recording-bytes", read_recording_bytes},
+    {"read-run", read_run},
 };
 
 /* ---- files */
@@ -727,6 +997,9 @@ int main(int argc, char **argv)
         play_file(argv[i]);
     if (failed > NAMED)
         fprintf(stderr, "play: %lu more failed\n", failed - NAMED);
+    if (too_wide_cases)
+        printf("%lu with data that six bytes do not hold: played by the struct alone\n",
+               too_wide_cases);
     printf("%lu passed, %lu failed\n", passed, failed);
     if (fflush(stdout) != 0) {
         fprintf(stderr, "play: the output cannot be written\n");

@@ -12,9 +12,11 @@
 #define FRAMES 2000u
 
 /* A stream, what is to be handed out of it, and what is. `due` is the number of bits after which a
-   frame is due, its last one; 0 where the test does not say. */
+   frame is due: those up to its last one, or of a message up to that of the next time frame; 0
+   where the test does not say. */
 struct frame {
-    uint32_t minute, length, place;
+    uint32_t minute, length, place, kind;
+    uint64_t data;
     int sure;
     size_t due;
 };
@@ -48,6 +50,8 @@ static void collect(void *context, const wwvb_entry *entry, int sure)
     f.minute = entry->minute;
     f.length = entry->length;
     f.place = entry->place;
+    f.kind = entry->kind;
+    f.data = entry->data;
     f.sure = sure;
     f.due = seconds;
     if (handed == FRAMES)
@@ -73,6 +77,8 @@ static void run(size_t from)
         if (got[i].minute != want[i].minute || got[i].length != want[i].length ||
             got[i].place != want[i].place)
             fail("another frame");
+        if (got[i].kind != want[i].kind || got[i].data != want[i].data)
+            fail("another kind of frame, or other data");
         if (got[i].sure != want[i].sure)
             fail("sure, or not");
         if (want[i].due != 0 && got[i].due != want[i].due)
@@ -92,6 +98,20 @@ static void noise(size_t n)
     }
 }
 
+/* Whether the frame of its minute is a message, by the plan, and its data. */
+static void set_kind(struct frame *f, const wwvb_plan *plan)
+{
+    uint32_t i;
+
+    f->kind = WWVB_ENTRY_TIME;
+    f->data = 0;
+    for (i = 0; i < plan->message_count; i++)
+        if (plan->messages[i].minute == f->minute) {
+            f->kind = WWVB_ENTRY_MESSAGE;
+            f->data = plan->messages[i].data;
+        }
+}
+
 /* Appends a minute's frame by a plan, expected or not; returns where it begins. */
 static size_t frame(const wwvb_plan *plan, uint32_t minute, int expected)
 {
@@ -105,6 +125,7 @@ static size_t frame(const wwvb_plan *plan, uint32_t minute, int expected)
         want[wanted].minute = minute;
         want[wanted].length = (uint32_t)w.bits;
         want[wanted].place = 0;
+        set_kind(&want[wanted], plan);
         want[wanted].sure = 1;
         want[wanted].due = length;
         wanted++;
@@ -112,14 +133,127 @@ static size_t frame(const wwvb_plan *plan, uint32_t minute, int expected)
     return at;
 }
 
+/* Frames in order, a time frame first and last. A message comes with the time frame after it, and
+   the first frame of all with the second time frame. */
 static void frame_run(const wwvb_plan *plan, uint32_t minute, uint32_t count)
 {
-    size_t first = wanted;
+    size_t first = wanted, i;
 
     for (; count > 0; count--)
         frame(plan, minute++, 1);
-    if (wanted > first + 1)
-        want[first].due = want[first + 1].due; /* the first comes with the second */
+    for (i = wanted; i-- > first;)
+        if (i + 1 < wanted && (i == first || want[i].kind == WWVB_ENTRY_MESSAGE))
+            want[i].due = want[i + 1].due;
+}
+
+/* The plan of the United States with messages in so many minutes from one on. */
+static wwvb_plan with_messages(uint32_t minute, uint32_t count)
+{
+    wwvb_plan plan = wwvb_us_plan();
+    uint32_t i;
+
+    plan.message_count = count;
+    for (i = 0; i < count; i++) {
+        plan.messages[i].minute = minute + i;
+        plan.messages[i].data = 0x123456789abull * (i + 1) % WWVB_DATA_LIMIT;
+    }
+    return plan;
+}
+
+/* One to four messages in a row, at each rank of a run after the first, with noise before. From
+   the second rank on they are also heard from the middle of the first frame. */
+static void messages_in_a_run(uint32_t m)
+{
+    uint32_t n, rank;
+    size_t i;
+
+    for (n = 1; n <= 4; n++)
+        for (rank = 1; rank < 4; rank++) {
+            wwvb_plan plan = with_messages(m + rank, n);
+
+            for (i = 0; i < 70; i++) {
+                begin("messages");
+                noise(i);
+                frame_run(&plan, m, n + rank + 2);
+                run(0);
+            }
+            for (i = 1; i < 60 && rank > 1; i++) {
+                begin("messages, from the middle of a frame");
+                frame(&plan, m, 0);
+                frame_run(&plan, m + 1, n + rank + 1);
+                run(i);
+            }
+        }
+}
+
+/* A message before any time frame is not handed out, nor one with noise after it, nor one of five
+   in a row. */
+static void messages_alone(uint32_t m)
+{
+    wwvb_plan plan = with_messages(m, 1), more = with_messages(m + 2, 4);
+    size_t i;
+
+    for (i = 0; i < 100; i++) {
+        begin("a message first");
+        noise(i);
+        frame(&plan, m, 0);
+        frame_run(&plan, m + 1, 3);
+        run(0);
+
+        begin("noise after a message");
+        frame_run(&more, m, 2);
+        frame(&more, m + 2, 0);
+        noise(i + 1);
+        frame_run(&plan, m + 6, 3);
+        run(0);
+    }
+    begin("five messages in a row");
+    plan = with_messages(m + 6, 1);
+    frame_run(&more, m, 2);
+    for (i = 2; i < 6; i++)
+        frame(&more, m + (uint32_t)i, 0);
+    frame(&plan, m + 6, 0);
+    frame_run(&plan, m + 7, 3);
+    run(0);
+}
+
+/* The minutes of 61 and 59 seconds, and those about them, as messages. */
+static void messages_at_the_end_of_june(void)
+{
+    uint32_t first, n;
+    int32_t sign;
+
+    for (sign = -1; sign <= 1; sign++)
+        for (n = 1; n <= 4; n++)
+            for (first = 6573596; first <= 6573600; first++) {
+                wwvb_plan plan = with_messages(first, n);
+
+                plan.leap_month = sign ? 149 : 0;
+                plan.leap_sign = sign;
+                begin("messages at the end of June");
+                noise(30);
+                frame_run(&plan, 6573595, 12);
+                run(0);
+            }
+}
+
+/* A message has place 0, but does not make the repaired time frames beside it sure. */
+static void messages_make_nothing_sure(uint32_t m)
+{
+    wwvb_plan plan = with_messages(m + 1, 2);
+    size_t i, at;
+
+    begin("messages between repaired frames");
+    for (i = 0; i < 8; i++) {
+        at = frame(&plan, m + (uint32_t)i, 1);
+        if (want[i].kind == WWVB_ENTRY_TIME && i < 6) {
+            stream[at + 40 + i % 7] ^= 1;
+            want[i].place = (uint32_t)(25 + i % 7);
+        }
+        want[i].sure = i >= 6;
+    }
+    want[0].due = want[1].due = want[2].due = want[3].due;
+    run(0);
 }
 
 int main(void)
@@ -263,6 +397,8 @@ int main(void)
         want[i].minute = 859588 + (uint32_t)i;
         want[i].length = 60;
         want[i].place = i == 0 ? 31 : 2;
+        want[i].kind = WWVB_ENTRY_TIME;
+        want[i].data = 0;
         want[i].sure = 0;
         want[i].due = 0;
     }
@@ -272,6 +408,11 @@ int main(void)
     frame_run(&us, 36337312, 5);
     want[2].due = want[3].due = 0;
     run(29);
+
+    messages_in_a_run(m);
+    messages_alone(m);
+    messages_at_the_end_of_june();
+    messages_make_nothing_sure(m);
 
     printf("receive: %lu streams, %lu frames handed out, each as it was sent\n", streams, frames);
     return 0;

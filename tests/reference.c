@@ -4,6 +4,7 @@
 
 #define MINUTES 52596000u
 #define SYNC "0011101101000"
+#define MESSAGE_SYNC "1101000111010"
 
 /* ---- minutes and dates */
 
@@ -210,6 +211,57 @@ static int legal(const struct ref_plan *p)
     return p->notice <= 1;
 }
 
+/* A message of a plan. */
+struct message {
+    uint32_t minute;
+    uint64_t data;
+};
+
+/* The message at an index: four bytes of minute and six of data, each the highest first. */
+static struct message message_at(const uint8_t *messages, size_t index)
+{
+    const uint8_t *bytes = messages + index * 10;
+    struct message m = {0, 0};
+    int i;
+
+    for (i = 0; i < 4; i++)
+        m.minute = m.minute * 256 + bytes[i];
+    for (i = 4; i < 10; i++)
+        m.data = m.data * 256 + bytes[i];
+    return m;
+}
+
+/* Whole messages, at most four, with minutes in range and strictly rising, and data below 2^42. */
+static int legal_messages(const uint8_t *messages, size_t length)
+{
+    size_t i;
+
+    if (length % 10 != 0 || length > 40)
+        return 0;
+    for (i = 0; i < length / 10; i++) {
+        struct message m = message_at(messages, i);
+
+        if (m.minute >= MINUTES || m.data >> 42 != 0)
+            return 0;
+        if (i > 0 && m.minute <= message_at(messages, i - 1).minute)
+            return 0;
+    }
+    return 1;
+}
+
+/* Whether there is a message for a minute, and its data. */
+static int has_message(const uint8_t *messages, size_t length, uint32_t minute, uint64_t *data)
+{
+    size_t i;
+
+    for (i = 0; i < length / 10; i++)
+        if (message_at(messages, i).minute == minute) {
+            *data = message_at(messages, i).data;
+            return 1;
+        }
+    return 0;
+}
+
 static uint32_t first_sunday(unsigned year, unsigned month)
 {
     uint32_t day = day_of(year, month, 1);
@@ -341,12 +393,42 @@ static unsigned write_frame(const struct ref_plan *p, uint32_t minute, uint8_t *
     return length;
 }
 
-unsigned ref_write(const struct ref_plan *p, uint32_t first, uint32_t count, uint8_t *out, size_t space, size_t *bits)
+unsigned ref_bit_of_data(unsigned i)
+{
+    if (i > 35)
+        return 54 - i; /* bits 13 to 18 */
+    if (i > 26)
+        return 55 - i; /* bits 20 to 28 */
+    if (i > 17)
+        return 56 - i; /* bits 30 to 38 */
+    if (i > 8)
+        return 57 - i; /* bits 40 to 48 */
+    return 58 - i;     /* bits 50 to 58 */
+}
+
+static unsigned write_message(const struct ref_plan *p, uint32_t minute, uint64_t data,
+                              uint8_t *out)
+{
+    unsigned length = length_for(leap(p, minute), minute), i;
+    uint8_t frame[61] = {0};
+
+    put(frame, MESSAGE_SYNC);
+    for (i = 0; i < 42; i++)
+        frame[ref_bit_of_data(i)] = data >> i & 1;
+    frame[19] = minute & 1;
+    frame[49] = p->notice;
+    memcpy(out, frame, length);
+    return length;
+}
+
+unsigned ref_write(const struct ref_plan *p, const uint8_t *messages, size_t messages_length,
+                   uint32_t first, uint32_t count, uint8_t *out, size_t space, size_t *bits)
 {
     size_t needed = 0;
+    uint64_t data;
     uint32_t i;
 
-    if (!legal(p))
+    if (!legal(p) || !legal_messages(messages, messages_length))
         return 1;
     if (count < 1 || count > 1000)
         return 2;
@@ -356,37 +438,115 @@ unsigned ref_write(const struct ref_plan *p, uint32_t first, uint32_t count, uin
         needed += length_for(leap(p, first + i), first + i);
     if (needed > space)
         return 4;
-    for (i = 0; i < count; i++)
-        out += write_frame(p, first + i, out);
+    for (i = 0; i < count; i++) {
+        if (has_message(messages, messages_length, first + i, &data))
+            out += write_message(p, first + i, data, out);
+        else
+            out += write_frame(p, first + i, out);
+    }
     *bits = needed;
     return 0;
 }
 
-void ref_entry_as_sent(const struct ref_plan *p, uint32_t minute, unsigned place, unsigned echo, uint8_t entry[12])
+/* What every entry has: minute, length and notice; all else 0. */
+static void begin_entry(uint8_t entry[REF_ENTRY], uint32_t minute, unsigned length,
+                        unsigned notice)
 {
-    unsigned state = ref_daylight(p, minute), leap_state = leap(p, minute);
-    uint8_t bytes[12] = {minute >> 24, minute >> 16 & 255, minute >> 8 & 255, minute & 255, length_for(leap_state, minute),
-                         state, leap_state, row(p, minute), p->notice, place, echo, 0};
+    memset(entry, 0, REF_ENTRY);
+    entry[0] = minute >> 24;
+    entry[1] = minute >> 16 & 255;
+    entry[2] = minute >> 8 & 255;
+    entry[3] = minute & 255;
+    entry[4] = length;
+    entry[8] = notice;
+}
 
-    memcpy(entry, bytes, 12);
+/* The rest of a message's entry. */
+static void put_data(uint8_t entry[REF_ENTRY], uint64_t data)
+{
+    int i;
+
+    entry[10] = 1;
+    entry[11] = 1;
+    for (i = 17; i >= 12; i--, data /= 256)
+        entry[i] = data % 256;
+}
+
+void ref_entry_as_sent(const struct ref_plan *p, uint32_t minute, unsigned place, unsigned echo,
+                       uint8_t entry[REF_ENTRY])
+{
+    unsigned leap_state = leap(p, minute);
+
+    begin_entry(entry, minute, length_for(leap_state, minute), p->notice);
+    entry[5] = ref_daylight(p, minute);
+    entry[6] = leap_state;
+    entry[7] = row(p, minute);
+    entry[9] = place;
+    entry[10] = echo;
+}
+
+void ref_message_as_sent(const struct ref_plan *p, uint32_t minute, uint64_t data,
+                         uint8_t entry[REF_ENTRY])
+{
+    begin_entry(entry, minute, length_for(leap(p, minute), minute), p->notice);
+    put_data(entry, data);
 }
 
 /* ---- reading */
 
-/* Questions 6 to 11 and 13 of the frame at the front of the bits; alone: one frame and nothing after it. */
-static unsigned read_one(const uint8_t *f, size_t length, int alone, uint8_t entry[12])
+/* What the reader knows before a frame: whether there was one, and then the minute expected, and
+   the leap state last read in that minute's month. */
+struct due {
+    int begun;
+    uint32_t minute;
+    unsigned leap_state; /* or UNKNOWN */
+};
+
+#define UNKNOWN 3
+
+static uint32_t minute_of(const uint8_t entry[REF_ENTRY])
+{
+    uint32_t minute = 0;
+    int i;
+
+    for (i = 0; i < 4; i++)
+        minute = minute * 256 + entry[i];
+    return minute;
+}
+
+/* What it knows after an accepted frame, by its entry. */
+static struct due after(struct due before, const uint8_t entry[REF_ENTRY])
+{
+    uint32_t minute = minute_of(entry);
+    struct due d = {1, 0, UNKNOWN};
+
+    d.minute = minute + 1;
+    if (!ref_last_of_month(minute))
+        d.leap_state = entry[11] ? before.leap_state : entry[6];
+    return d;
+}
+
+/* Question 13; alone: one frame and nothing after it. */
+static int has_length(const uint8_t *f, size_t length, int alone, unsigned seconds)
+{
+    unsigned i;
+
+    if (alone ? length != seconds : length < seconds)
+        return 0;
+    for (i = 59; i < seconds; i++)
+        if (f[i] != 0)
+            return 0;
+    return 1;
+}
+
+/* Questions 9, 10, 11, 13 and 14 of a time frame at the front of the bits. */
+static unsigned read_time(const uint8_t *f, size_t length, int alone, struct due due,
+                          uint8_t entry[REF_ENTRY])
 {
     unsigned i, state = 99, leap_state = 0, found = 0, place, seconds;
     uint8_t word[31], five[5];
     uint32_t minute;
 
-    if (length < 59)
-        return 6;
-    for (i = 0; i < 59; i++)
-        if (f[i] > 1)
-            return 7;
-    if (!says(f, SYNC, 13))
-        return 8;
     memcpy(five, f + 47, 2);
     memcpy(five + 2, f + 50, 3);
     for (i = 0; i < 12; i++)
@@ -408,59 +568,91 @@ static unsigned read_one(const uint8_t *f, size_t length, int alone, uint8_t ent
     if (minute >= MINUTES)
         return 11;
     seconds = length_for(leap_state, minute);
-    if (alone ? length != seconds : length < seconds)
+    if (!has_length(f, length, alone, seconds))
         return 13;
-    for (i = 59; i < seconds; i++)
-        if (f[i] != 0)
-            return 13;
-    entry[0] = minute >> 24;
-    entry[1] = minute >> 16 & 255;
-    entry[2] = minute >> 8 & 255;
-    entry[3] = minute & 255;
-    entry[4] = seconds;
+    if (due.begun && minute != due.minute)
+        return 14;
+    begin_entry(entry, minute, seconds, f[49]);
     entry[5] = state;
     entry[6] = leap_state;
     entry[7] = found;
-    entry[8] = f[49];
     entry[9] = place;
     entry[10] = f[19] == (minute & 1);
-    entry[11] = 0;
     return 0;
+}
+
+/* Questions 19, 20, 11, 13 and 14 of a message at the front of the bits. */
+static unsigned read_message(const uint8_t *f, size_t length, struct due due,
+                             uint8_t entry[REF_ENTRY])
+{
+    uint64_t data = 0;
+    unsigned i, seconds;
+
+    if (!due.begun)
+        return 19;
+    if (due.leap_state == UNKNOWN && ref_last_of_month(due.minute))
+        return 20;
+    if (due.minute >= MINUTES)
+        return 11;
+    seconds = due.leap_state == UNKNOWN ? 60 : length_for(due.leap_state, due.minute);
+    if (!has_length(f, length, 0, seconds))
+        return 13;
+    if (f[19] != (due.minute & 1))
+        return 14;
+    for (i = 0; i < 42; i++)
+        data |= (uint64_t)f[ref_bit_of_data(i)] << i;
+    begin_entry(entry, due.minute, seconds, f[49]);
+    put_data(entry, data);
+    return 0;
+}
+
+/* All questions but 5 of the frame at the front of the bits. */
+static unsigned read_one(const uint8_t *f, size_t length, int alone, struct due due,
+                         uint8_t entry[REF_ENTRY])
+{
+    unsigned i;
+
+    if (length < 59)
+        return 6;
+    for (i = 0; i < 59; i++)
+        if (f[i] > 1)
+            return 7;
+    if (says(f, MESSAGE_SYNC, 13))
+        return read_message(f, length, due, entry);
+    return says(f, SYNC, 13) ? read_time(f, length, alone, due, entry) : 8;
 }
 
 unsigned ref_read_frame(const uint8_t *bits, size_t length, uint8_t *entry, size_t space)
 {
-    uint8_t bytes[12];
+    struct due none = {0, 0, UNKNOWN};
+    uint8_t bytes[REF_ENTRY];
     unsigned refusal;
 
-    if (space < 12)
+    if (space < REF_ENTRY)
         return 5;
-    refusal = read_one(bits, length, 1, bytes);
+    refusal = read_one(bits, length, 1, none, bytes);
     if (refusal == 0)
-        memcpy(entry, bytes, 12);
+        memcpy(entry, bytes, REF_ENTRY);
     return refusal;
 }
 
-unsigned ref_read(const uint8_t *bits, size_t length, uint8_t *entries, size_t space, size_t *count, size_t *used)
+unsigned ref_read(const uint8_t *bits, size_t length, uint8_t *entries, size_t space,
+                  size_t *count, size_t *used)
 {
-    uint32_t due = 0;
+    struct due due = {0, 0, UNKNOWN};
 
     *count = *used = 0;
     while (*used < length) {
-        uint8_t bytes[12];
-        uint32_t minute;
+        uint8_t bytes[REF_ENTRY];
         unsigned refusal;
 
-        if (space - *count * 12 < 12)
+        if (space - *count * REF_ENTRY < REF_ENTRY)
             return 5;
-        refusal = read_one(bits + *used, length - *used, 0, bytes);
+        refusal = read_one(bits + *used, length - *used, 0, due, bytes);
         if (refusal)
             return refusal;
-        minute = (uint32_t)bytes[0] << 24 | (uint32_t)bytes[1] << 16 | (uint32_t)bytes[2] << 8 | bytes[3];
-        if (*count && minute != due)
-            return 14;
-        memcpy(entries + *count * 12, bytes, 12);
-        due = minute + 1;
+        memcpy(entries + *count * REF_ENTRY, bytes, REF_ENTRY);
+        due = after(due, bytes);
         *used += bytes[4];
         ++*count;
     }
@@ -510,13 +702,14 @@ static unsigned unit_of(unsigned worth)
     return worth >= 100 ? 100 : worth >= 10 ? 10 : 1;
 }
 
-unsigned ref_write_amplitude(const struct ref_plan *p, uint32_t minute, int32_t ut1_sign,
+unsigned ref_write_amplitude(const struct ref_plan *p, const uint8_t *messages,
+                             size_t messages_length, uint32_t minute, int32_t ut1_sign,
                              uint32_t ut1_tenths, uint8_t *out, size_t space, size_t *symbols)
 {
     unsigned value[FIELDS] = {0}, length, s;
     struct ref_date d;
 
-    if (!legal(p))
+    if (!legal(p) || !legal_messages(messages, messages_length))
         return 1;
     if (minute >= MINUTES)
         return 3;

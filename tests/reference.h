@@ -10,11 +10,16 @@
 #include <stddef.h>
 #include <stdint.h>
 
+/* The six numbers of a plan. Its messages stand beside them, ten bytes each: the minute in four,
+   the data in six, the highest byte first. Without messages the length is 0, and NULL will do. */
 struct ref_plan {
     uint32_t kind, spring, autumn, leap_month;
     int32_t leap_sign;
     uint32_t notice;
 };
+
+/* Bytes of an entry. */
+#define REF_ENTRY 18
 
 struct ref_date {
     uint32_t year, month, day, hour, minute, weekday;
@@ -27,24 +32,37 @@ struct ref_amplitude {
     uint32_t ut1_tenths, warning, daylight, length;
 };
 
-/* Each gives the number of the first check that fails, or 0. What is pointed to is written only with 0. The entries, bits
-   and buffer of a recording's reading are those of the frames before the refused one. */
+/* Each gives the number of the first check that fails, or 0. What is pointed to is written only
+   with 0. The entries, bits and buffer of a recording's reading are those of the frames before the
+   refused one. */
 unsigned ref_minute_to_date(uint32_t minute, struct ref_date *date);
 unsigned ref_date_to_minute(const struct ref_date *date, uint32_t *minute);
-unsigned ref_local_date(uint32_t minute, uint32_t state, int32_t offset, uint32_t hour, struct ref_date *date);
-unsigned ref_write(const struct ref_plan *plan, uint32_t first, uint32_t count, uint8_t *out, size_t space, size_t *bits);
+unsigned ref_local_date(uint32_t minute, uint32_t state, int32_t offset, uint32_t hour,
+                        struct ref_date *date);
+unsigned ref_write(const struct ref_plan *plan, const uint8_t *messages, size_t messages_length,
+                   uint32_t first, uint32_t count, uint8_t *out, size_t space, size_t *bits);
 unsigned ref_read_frame(const uint8_t *bits, size_t length, uint8_t *entry, size_t space);
-unsigned ref_read(const uint8_t *bits, size_t length, uint8_t *entries, size_t space, size_t *count, size_t *used);
-unsigned ref_write_amplitude(const struct ref_plan *plan, uint32_t minute, int32_t ut1_sign,
+unsigned ref_read(const uint8_t *bits, size_t length, uint8_t *entries, size_t space,
+                  size_t *count, size_t *used);
+unsigned ref_write_amplitude(const struct ref_plan *plan, const uint8_t *messages,
+                             size_t messages_length, uint32_t minute, int32_t ut1_sign,
                              uint32_t ut1_tenths, uint8_t *out, size_t space, size_t *symbols);
 unsigned ref_read_amplitude(const uint8_t *symbols, size_t length, struct ref_amplitude *read);
 
-/* The entry that a legal plan, a minute, the place inverted in its frame (0: none) and the echo byte give, nothing of it
-   read. */
-void ref_entry_as_sent(const struct ref_plan *plan, uint32_t minute, unsigned place, unsigned echo, uint8_t entry[12]);
+/* The entry of a time frame that a legal plan, a minute, the place inverted in the frame (0: none)
+   and the echo byte give, nothing of it read. */
+void ref_entry_as_sent(const struct ref_plan *plan, uint32_t minute, unsigned place, unsigned echo,
+                       uint8_t entry[REF_ENTRY]);
+
+/* The entry of a message that a legal plan, its minute and its data give, nothing of it read. */
+void ref_message_as_sent(const struct ref_plan *plan, uint32_t minute, uint64_t data,
+                         uint8_t entry[REF_ENTRY]);
 
 /* The number of the bit of a frame at a place, 1 to 31, of its time word. */
 unsigned ref_bit_of_place(unsigned place);
+
+/* The number of the bit of a message frame at which data[i] stands, i from 0 to 41. */
+unsigned ref_bit_of_data(unsigned i);
 
 /* The daylight state, 0 to 3, that a legal plan gives a minute. */
 unsigned ref_daylight(const struct ref_plan *plan, uint32_t minute);

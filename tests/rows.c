@@ -53,7 +53,7 @@ static size_t frame_of(const struct ref_plan *p, uint32_t minute, uint8_t *out)
 {
     size_t n;
 
-    if (ref_write(p, minute, 1, out, WWVB_MAX_FRAME, &n))
+    if (ref_write(p, NULL, 0, minute, 1, out, WWVB_MAX_FRAME, &n))
         fail(p, minute, "the reference refuses it");
     return n;
 }
@@ -61,13 +61,15 @@ static size_t frame_of(const struct ref_plan *p, uint32_t minute, uint8_t *out)
 /* Written as by the reference with the two words exchanged, and read back as sent, whole and frame by frame. */
 static void try_recording(const struct ref_plan *p, uint32_t first, uint32_t count)
 {
-    wwvb_write_reply w = wwvb_write_recording(p->kind, p->spring, p->autumn, p->leap_month, p->leap_sign, p->notice, first,
-                                              count, bits[0], sizeof bits[0]);
+    wwvb_write_reply w = wwvb_write_recording(p->kind, p->spring, p->autumn, p->leap_month,
+                                              p->leap_sign, p->notice, NULL, 0, first, count,
+                                              bits[0], sizeof bits[0]);
     wwvb_read_reply r;
     size_t n, at = 0;
     uint32_t k;
 
-    if (ref_write(p, first, count, bits[1], sizeof bits[1], &n) || w.refusal || w.bits != n)
+    if (ref_write(p, NULL, 0, first, count, bits[1], sizeof bits[1], &n) || w.refusal
+        || w.bits != n)
         fail(p, first, "number or bits of the writing");
     r = wwvb_read_recording(bits[0], w.bits, entries, sizeof entries);
     if (r.refusal || r.entries != count || r.used != n)

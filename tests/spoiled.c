@@ -10,11 +10,16 @@
  *   before-entries   the one before the entry buffer of a reading
  *   after-entries    the one after it
  *   rest-of-entries  the one after the last entry, in the buffer
+ *   before-messages  the one before the messages of a writing
+ *   messages         the first of them
+ *   after-messages   the one after them
  * or what is wrong in the first frame that is written:
  *   echo             bit 19
  *   place            bit 46, place 31 of the time word
  *   notice           bit 49
  *   minute           it is the frame of the minute after
+ * or what is wrong in the second entry that is read, if there are more:
+ *   entry            the last byte, of the data
  * Without SPOIL the calls are those of the library.
  */
 #define _POSIX_C_SOURCE 200809L
@@ -46,6 +51,14 @@ static void spoil_written(wwvb_write_reply r, uint8_t *out, size_t out_length)
         spoil("rest", out + r.bits);
 }
 
+static void spoil_messages(const uint8_t *messages, size_t messages_length)
+{
+    spoil("before-messages", (uint8_t *)messages - 1);
+    spoil("after-messages", (uint8_t *)messages + messages_length);
+    if (messages_length > 0)
+        spoil("messages", (uint8_t *)messages);
+}
+
 static void spoil_input(const uint8_t *bits, size_t bits_length)
 {
     if (bits_length > 0)
@@ -64,13 +77,16 @@ static void spoil_entries(size_t n, uint8_t *entries, size_t entries_length)
 
 static wwvb_write_reply spoiling_write_recording(uint32_t kind, uint32_t spring, uint32_t autumn,
                                                  uint32_t leap_month, int32_t leap_sign,
-                                                 uint32_t notice, uint32_t first, uint32_t count,
-                                                 uint8_t *out, size_t out_length)
+                                                 uint32_t notice, const uint8_t *messages,
+                                                 size_t messages_length, uint32_t first,
+                                                 uint32_t count, uint8_t *out, size_t out_length)
 {
     wwvb_write_reply r = wwvb_write_recording(kind, spring, autumn, leap_month, leap_sign, notice,
+                                              messages, messages_length,
                                               first + (uint32_t)is_wanted("minute"), count, out,
                                               out_length);
 
+    spoil_messages(messages, messages_length);
     spoil_written(r, out, out_length);
     if (r.refusal == WWVB_OK) {
         spoil("echo", out + 19);
@@ -97,18 +113,23 @@ static wwvb_read_reply spoiling_read_recording(const uint8_t *bits, size_t bits_
 
     spoil_input(bits, bits_length);
     spoil_entries(r.entries, entries, entries_length);
+    if (r.entries > 2)
+        spoil("entry", entries + 2 * WWVB_ENTRY_SIZE - 1);
     return r;
 }
 
 static wwvb_write_reply spoiling_write_amplitude(uint32_t kind, uint32_t spring, uint32_t autumn,
                                                  uint32_t leap_month, int32_t leap_sign,
-                                                 uint32_t notice, uint32_t minute,
+                                                 uint32_t notice, const uint8_t *messages,
+                                                 size_t messages_length, uint32_t minute,
                                                  int32_t ut1_sign, uint32_t ut1_tenths,
                                                  uint8_t *out, size_t out_length)
 {
     wwvb_write_reply r = wwvb_write_amplitude(kind, spring, autumn, leap_month, leap_sign, notice,
-                                              minute, ut1_sign, ut1_tenths, out, out_length);
+                                              messages, messages_length, minute, ut1_sign,
+                                              ut1_tenths, out, out_length);
 
+    spoil_messages(messages, messages_length);
     spoil_written(r, out, out_length);
     return r;
 }

@@ -1,8 +1,8 @@
 /*
  * The judge of examples/window.c on damaged pickups. A pair of inverted bits of a time word may
  * make it unsure; it never calls a resend fresh, nor a fresh order a resend. With at most one
- * inverted bit in each frame, and a frame without any, it is sure and right, so it does not hold
- * every order.
+ * inverted bit in each frame, and a time frame without any, it is sure and right, so it does not
+ * hold every order. Messages in a pickup never make it sure.
  */
 #define main window_main
 #include "../examples/window.c"
@@ -214,6 +214,76 @@ static void pairs_in_three_frames(uint32_t minute)
             }
 }
 
+/* Three frames from a minute on, those of a set as messages; bit k is the frame of rank k. */
+static struct pickup take_messages(uint32_t minute, unsigned set)
+{
+    wwvb_plan plan = wwvb_us_plan();
+    uint32_t k;
+
+    for (k = 0; k < 3; k++)
+        if (set >> k & 1) {
+            plan.messages[plan.message_count].minute = minute + k;
+            plan.messages[plan.message_count].data = 0x123456789abull >> k;
+            plan.message_count++;
+        }
+    return take_by(&plan, "with messages", minute, 3);
+}
+
+/* Inverts one mask in the first time frame, and another in the others. */
+static void invert_times(struct pickup *p, unsigned set, uint32_t first, uint32_t others)
+{
+    unsigned k;
+
+    for (k = 0; k < 3; k++)
+        if (!(set >> k & 1))
+            invert(p, k * 60, k == 0 ? first : others);
+}
+
+/* Three frames, the first a time frame. Whole they are sure and right; with each time frame
+   repaired, by single bits or by pairs, they are not, though a message has place 0. */
+static void messages_in_three_frames(uint32_t minute, unsigned set)
+{
+    struct pickup near = take("near", minute + 9, 3), far = take("far", minute + 10, 3);
+    struct pickup whole = take_messages(minute, set);
+    unsigned i, j, last = set == 6 ? 1 : PAIRS; /* 6: the first frame is the only time frame */
+
+    must_be("with messages", RESEND, &whole, minute, &near, minute + 9);
+    must_be("with messages", FRESH, &whole, minute, &far, minute + 10);
+    for (i = 0; i < PLACES; i++)
+        for (j = 0; j < PLACES; j++) {
+            struct pickup damaged = whole;
+
+            invert_times(&damaged, set, 1u << i, 1u << j);
+            must_be("messages and single bits", NOT_SURE, &damaged, minute, &near, minute + 9);
+        }
+    for (i = 0; i < PAIRS; i++)
+        for (j = 0; j < last; j++) {
+            struct pickup damaged = whole;
+            uint32_t false_minute;
+
+            invert_times(&damaged, set, pair_mask[i], pair_mask[j]);
+            must_be("messages and pairs", NOT_SURE, &damaged, minute, &far, minute + 10);
+            if (j == 0 && read_as(&damaged, &false_minute)) {
+                struct pickup trap = take("trap", false_minute, 3);
+
+                must_be("messages and pairs", NOT_SURE, &damaged, minute, &trap, false_minute);
+            }
+        }
+}
+
+/* A message as the first frame: the minute is not known. */
+static void messages_first(uint32_t minute)
+{
+    struct pickup near = take("near", minute + 9, 3);
+    unsigned set;
+
+    for (set = 1; set < 8; set += 2) {
+        struct pickup damaged = take_messages(minute, set);
+
+        must_be("a message first", NOT_SURE, &damaged, minute, &near, minute + 9);
+    }
+}
+
 int main(void)
 {
     /* A summer's noon, near both ends of the range, and before a carry through 24 bits. */
@@ -232,6 +302,9 @@ int main(void)
     singles_in_three_frames(minutes[0]);
     pairs_in_three_frames(minutes[0]);
     pairs_in_three_frames(minutes[3]);
+    for (i = 2; i <= 6; i += 2)
+        messages_in_three_frames(minutes[0], i);
+    messages_first(minutes[0]);
     printf("window: %lu judgements, %lu not sure, none wrong\n", judged, unsure);
     return 0;
 }

@@ -19,6 +19,7 @@ import sys
 
 LAST = 52_595_999
 SYNC = "0011101101000"                         # Table 3, sync_T
+MESSAGE_SYNC = "1101000111010"                 # document 02, 7
 
 # Table 4, by leap state and then by dst_on[1] dst_on[0]
 STATE_WORDS = {
@@ -49,6 +50,9 @@ PARITY = [
 ]
 
 PLACE_BITS = [*range(13, 19), *range(20, 29), *range(30, 39), *range(40, 47)]
+STATE_AT = (47, 48, 50, 51, 52)
+NEXT_AT = range(53, 59)
+DATA_BITS = [*range(13, 19), *range(20, 29), *range(30, 39), *range(40, 49), *range(50, 59)]     # data[41] first
 
 # Table 10, bits 0 to 59 in rows of ten; bits 50 to 59 by its text
 TABLE_10 = "0011101101" "0001001000" "0011001000" "0110001101" "0011010001" "0110110110"
@@ -130,6 +134,21 @@ def is_month_end(minute):
 
 # ---- sending
 
+def messages_in(data):
+    """The messages in bytes: minute and data of each; None where the bytes are no messages."""
+    if len(data) % 10:
+        return None
+    number = lambda at, size: int.from_bytes(data[at:at + size], "big")
+    return [(number(at, 4), number(at + 4, 6)) for at in range(0, len(data), 10)]
+
+
+def legal_messages(messages):
+    if messages is None or len(messages) > 4:
+        return False
+    minutes = [m for m, _ in messages]
+    return all(m <= LAST and data < 2**42 for m, data in messages) and all(a < b for a, b in zip(minutes, minutes[1:]))
+
+
 def legal(plan):
     kind, spring, autumn, month, sign, notice = plan
     if kind in (0, 3):
@@ -163,8 +182,11 @@ def facts(plan, minute):
         dst = f"{is_on(plan, minute):d}{is_on(plan, minute - 1440):d}"
         row = next_row(plan, minute)
     leap = {0: 0, -1: 1, 1: 2}[sign] if month_of(minute) == month else 0
-    length = {0: 60, 1: 59, 2: 61}[leap] if is_month_end(minute) else 60
-    return length, dst, leap, row
+    return length_of(leap, minute), dst, leap, row
+
+
+def length_of(leap, minute):
+    return {0: 60, 1: 59, 2: 61}[leap] if is_month_end(minute) else 60
 
 
 def code_word(minute):
@@ -173,30 +195,41 @@ def code_word(minute):
     return "".join(str(b) for b in reversed(par)) + t
 
 
-def frame(plan, minute):
-    length, dst, leap, row = facts(plan, minute)
-    bits = [0] * length
-    bits[0:13] = map(int, SYNC)
-    for at, b in zip(PLACE_BITS, code_word(minute)):
-        bits[at] = int(b)
-    bits[19] = minute % 2
-    state = STATE_WORDS[leap][dst]
-    for at, b in zip((47, 48, 50, 51, 52), state):
-        bits[at] = int(b)
-    bits[49] = plan[5]
-    bits[53:59] = map(int, ROWS[row - 1])
+def with_words(bits, *words):
+    """The bits with other words: each is where its bits lie, and the bits."""
+    bits = list(bits)
+    for at, word in words:
+        for k, b in zip(at, word, strict=True):
+            bits[k] = int(b)
     return bits
 
 
-def write(plan, first, count, space):
+def frame(plan, minute):
+    length, dst, leap, row = facts(plan, minute)
+    return with_words([0] * length, (range(13), SYNC), (PLACE_BITS, code_word(minute)), ([19, 49], [minute % 2, plan[5]]),
+                      (STATE_AT, STATE_WORDS[leap][dst]), (NEXT_AT, ROWS[row - 1]))
+
+
+def message(plan, minute, data):
+    """A message in a minute's place."""
+    length, _, _, _ = facts(plan, minute)
+    return with_words([0] * length, (range(13), MESSAGE_SYNC), (DATA_BITS, f"{data:042b}"), ([19, 49], [minute % 2, plan[5]]))
+
+
+def sent_frame(plan, messages, minute):
+    datas = dict(messages)
+    return message(plan, minute, datas[minute]) if minute in datas else frame(plan, minute)
+
+
+def write(plan, first, count, space, messages=()):
     """The refusal or 0, and the bits."""
-    if not legal(plan):
+    if not legal(plan) or not legal_messages(messages):
         return 1, []
     if not 1 <= count <= 1000:
         return 2, []
     if first + count - 1 > LAST:
         return 3, []
-    bits = [b for m in range(first, first + count) for b in frame(plan, m)]
+    bits = [b for m in range(first, first + count) for b in sent_frame(plan, messages, m)]
     return (0, bits) if len(bits) <= space else (4, [])
 
 
@@ -211,57 +244,98 @@ def nearest(word):
             return minute, place
 
 
-def read_frame(bits, alone):
+ENTRY = 18
+
+
+def entry_bytes(minute, length, dst, leap, row, notice, place, echo, is_message=0, data=0):
+    return [*minute.to_bytes(4, "big"), length, dst, leap, row, notice, place, echo, is_message, *data.to_bytes(6, "big")]
+
+
+def wrong_end(bits, alone, length):
+    """Question 13."""
+    return len(bits) < length or alone and len(bits) != length or any(bits[59:length])
+
+
+# The state of a reading is None before the first frame; then the minute expected, and the leap state last read in that minute's
+# month, or 3 if none was.
+
+def read_message(bits, alone, state):
+    """The refusal, or 0 and the entry, of a message with its 59 bits."""
+    if state is None:
+        return 19, None
+    minute, leap = state
+    if leap == 3 and is_month_end(minute):
+        return 20, None
+    if minute > LAST:
+        return 11, None
+    length = length_of(leap, minute)
+    if wrong_end(bits, alone, length):
+        return 13, None
+    if bits[19] != minute % 2:
+        return 14, None
+    data = int("".join(str(bits[at]) for at in DATA_BITS), 2)
+    return 0, entry_bytes(minute, length, 0, 0, 0, bits[49], 0, 1, 1, data)
+
+
+def read_frame(bits, alone, state):
     """The refusal, or 0 and the entry; the bits are those left."""
     if len(bits) < 59:
         return 6, None
-    if any(b > 1 for b in bits[:59]):
+    if max(bits[:59]) > 1:
         return 7, None
     text = "".join(map(str, bits[:59]))
+    if text[:13] == MESSAGE_SYNC:
+        return read_message(bits, alone, state)
     if text[:13] != SYNC:
         return 8, None
     word = text[47:49] + text[50:53]
-    state = [(leap, dst) for leap, row in STATE_WORDS.items() for dst, w in row.items() if w == word]
-    if not state:
+    states = [(leap, dst) for leap, row in STATE_WORDS.items() for dst, w in row.items() if w == word]
+    if not states:
         return 9, None
-    leap, dst = state[0]
+    leap, dst = states[0]
     rows = [n for n, w in enumerate(ROWS, 1) if w == text[53:59] and (n > 48 or (n > 24) == (dst[0] == "1"))]
     if not rows:
         return 10, None
     minute, place = nearest([bits[at] for at in PLACE_BITS])
     if minute > LAST:
         return 11, None
-    echo = bits[19] == minute % 2
-    length = {0: 60, 1: 59, 2: 61}[leap] if is_month_end(minute) else 60
-    if len(bits) < length or alone and len(bits) != length or any(bits[59:length]):
+    length = length_of(leap, minute)
+    if wrong_end(bits, alone, length):
         return 13, None
-    return 0, [*minute.to_bytes(4, "big"), length, int(dst, 2), leap, rows[0], bits[49], place, int(echo), 0]
+    if state and minute != state[0]:
+        return 14, None
+    return 0, entry_bytes(minute, length, int(dst, 2), leap, rows[0], bits[49], place, int(bits[19] == minute % 2))
 
 
-def read_one(bits, buffer, space):
-    """The refusal or 0, and the buffer, of which so many bytes are lent."""
-    if space < 12:
-        return 5, buffer
-    refusal, entry = read_frame(bits, True)
-    return refusal, buffer if refusal else entry + buffer[12:]
+def state_after(state, entry):
+    minute = int.from_bytes(bytes(entry[:4]), "big")
+    leap = state[1] if entry[11] else entry[6]
+    return minute + 1, 3 if is_month_end(minute) else leap
 
 
-def read_recording(bits, buffer, space):
-    """Entries, bits used, the refusal or 0, and the buffer."""
-    entries, used, due = [], 0, None
-    end = lambda r: (len(entries), used, r, [b for e in entries for b in e] + buffer[12 * len(entries):])
+def read_one(bits, buffer, space, state=None):
+    """The refusal or 0, the buffer, of which so many bytes are lent, and the state after it."""
+    if space < ENTRY:
+        return 5, buffer, state
+    refusal, entry = read_frame(bits, True, state)
+    if refusal:
+        return refusal, buffer, state
+    return 0, entry + buffer[ENTRY:], state_after(state, entry)
+
+
+def read_recording(bits, buffer, space, state=None):
+    """Entries, bits used, the refusal or 0, the buffer, and the state after them."""
+    entries, used = [], 0
+    end = lambda r: (len(entries), used, r, [b for e in entries for b in e] + buffer[ENTRY * len(entries):], state)
     while used < len(bits):
-        if space - 12 * len(entries) < 12:
+        if space - ENTRY * len(entries) < ENTRY:
             return end(5)
-        refusal, entry = read_frame(bits[used:], False)
+        refusal, entry = read_frame(bits[used:used + 61], False, state)         # no frame has more
         if refusal:
             return end(refusal)
-        minute = int.from_bytes(bytes(entry[:4]), "big")
-        if due not in (None, minute):
-            return end(14)
         entries.append(entry)
         used += entry[4]
-        due = minute + 1
+        state = state_after(state, entry)
     return end(0)
 
 
@@ -291,9 +365,9 @@ def amplitude(plan, minute, sign, tenths):
     return symbols_of(fields, length)
 
 
-def write_amplitude(plan, minute, sign, tenths, space):
+def write_amplitude(plan, minute, sign, tenths, space, messages=()):
     """The refusal or 0, and the symbols: questions 1, 3, 18 and 4."""
-    if not legal(plan):
+    if not legal(plan) or not legal_messages(messages):
         return 1, []
     if minute > LAST:
         return 3, []
@@ -372,15 +446,21 @@ def case(word, text, answer, given=""):
     LINES.append(text + answer)
 
 
-# The numbers that each call can give, 0 for no refusal; 12 is none of them.
+# The numbers that each call can give, 0 for no refusal; 12 is none of them. A reading's stands by the place of the frame that is
+# refused, and by its sync word.
 NUMBERS = {
     "date": {0, 3},
     "minute": {0, 15},
     "local date": {0, 3, 16},
     "writing": {0, 1, 2, 3, 4},
     "one frame": {0, 5, 6, 7, 8, 9, 10, 11, 13},
+    "one message": {5, 6, 7, 19},
     "first frame": {0, 5, 6, 7, 8, 9, 10, 11, 13},
+    "first message": {5, 6, 7, 19},
     "later frame": {0, 5, 6, 7, 8, 9, 10, 11, 13, 14},
+    "later message": {5, 6, 7, 20, 11, 13, 14},
+    "one later frame": {0, 5, 6, 7, 8, 9, 10, 11, 13, 14},
+    "one later message": {0, 5, 6, 7, 20, 11, 13, 14},
     "writing the amplitude code": {0, 1, 3, 18, 4},
     "reading the amplitude code": {0, 17, 18},
 }
@@ -406,16 +486,21 @@ def given(bits):
     return "".join("x" if b == 255 else str(b) for b in bits)
 
 
+def told_reading(place, left, refusal):
+    """The refusal of a reading, with the bits that are left."""
+    return told(f"{place} {'message' if digits(left).startswith(MESSAGE_SYNC) else 'frame'}", refusal)
+
+
 def entry_text(bits, space):
     """What reading one frame gives."""
-    refusal, buffer = read_one(bits, [7] * 14, space)
-    return ":" + spaced(told("one frame", refusal), "|", *buffer)
+    refusal, buffer, _ = read_one(bits, [7] * (space + 2), space)
+    return ":" + spaced(told_reading("one", bits, refusal), "|", *buffer)
 
 
 def entries_text(bits, space):
     """What reading a recording gives."""
-    count, used, refusal, buffer = read_recording(bits, [7] * 38, space)
-    return ":" + spaced(count, used, told("later frame" if count else "first frame", refusal), "|", *buffer)
+    count, used, refusal, buffer, _ = read_recording(bits, [7] * (space + 2), space)
+    return ":" + spaced(count, used, told_reading("later" if count else "first", bits[used:], refusal), "|", *buffer)
 
 
 def one(label, bits, n, space):
@@ -430,16 +515,18 @@ def plan_text(plan):
     return "plan " + " ".join(map(str, plan))
 
 
+def messages_text(messages, size=None):
+    """What a text says of messages: how many bytes of them are given, and the minute and data of each."""
+    size = 10 * len(messages) if size is None else size
+    return f", {size} bytes of messages " + ", ".join(f"{m} {data}" for m, data in messages) if messages else ""
+
+
+def message_bytes(messages):
+    return b"".join(m.to_bytes(4, "big") + data.to_bytes(6, "big") for m, data in messages)
+
+
 def example(*changes):
-    bits = [int(b) for b in TABLE_10]
-    for at, word in changes:
-        for k, b in zip(at, word):
-            bits[k] = int(b)
-    return bits
-
-
-STATE_AT = (47, 48, 50, 51, 52)
-NEXT_AT = range(53, 59)
+    return with_words(map(int, TABLE_10), *changes)
 
 
 def inverted(bits, *places):
@@ -447,11 +534,11 @@ def inverted(bits, *places):
 
 
 def table_10(a, b):
-    one(f"Table 10, inverted {a} {b}", inverted(example(), a, b), 60, 12)
+    one(f"Table 10, inverted {a} {b}", inverted(example(), a, b), 60, ENTRY)
 
 
 def zero(a, b):
-    one(f"minute 0, inverted {a} {b}", inverted(frame(USUAL, 0), a, b), 60, 12)
+    one(f"minute 0, inverted {a} {b}", inverted(frame(USUAL, 0), a, b), 60, ENTRY)
 
 
 def date(minute):
@@ -510,9 +597,10 @@ def around(m):
     date(m + 1)
 
 
-def sent(plan, m):
-    bits = frame(plan, m)
-    case("s", f"{plan_text(plan)} sends {m}", f" {digits(bits)}" + entry_text(bits, 12))
+def sent(plan, m, messages=()):
+    bits = write(plan, m, 1, 61, messages)[1]
+    text = f"{plan_text(plan)} sends {m}{messages_text(messages)}"
+    case("s", text, f" {digits(bits)}" + entry_text(bits, ENTRY))
 
 
 def minutes(text, plan, *numbers):
@@ -527,64 +615,101 @@ def change(row, year):
     minutes(f"row {row} changes:", plan, t - 1, t, t + 1439, t + 1440)
 
 
+def last_minute(month):
+    return minute_of(2000 + (month + 1) // 12, (month + 1) % 12 + 1, 1) - 1
+
+
 def month_end(month, sign):
-    last = minute_of(2000 + (month + 1) // 12, (month + 1) % 12 + 1, 1) - 1
+    last = last_minute(month)
     plan = (1, 0, 0, month, sign, 0)
     minutes(f"leap month {month} {sign}:", plan, last - 1, last, last + 1)
     return last
 
 
-def written(plan, first, count, space):
-    refusal, bits = write(plan, first, count, space)
+def written(plan, first, count, space, messages=(), size=None):
+    """So many bytes of the messages are given, or all."""
+    refusal, bits = write(plan, first, count, space, messages_in(message_bytes(messages)[:size]))
     out = bits + [7] * (124 - len(bits))
-    case("w", f"{plan_text(plan)} writes {first} {count} in {space}:", spaced(told("writing", refusal), len(bits), digits(out)))
+    text = f"{plan_text(plan)} writes {first} {count} in {space}{messages_text(messages, size)}:"
+    case("w", text, spaced(told("writing", refusal), len(bits), digits(out)))
 
 
-def carried(plan, first, count):
-    bits = write(plan, first, count, 183)[1]
-    case("c", f"{plan_text(plan)} sends {first} {count}", entries_text(bits, 36))
+def sent_entry(plan, messages, m):
+    """A frame's entry as sent, by plan, messages and minute."""
+    length, dst, leap, row = facts(plan, m)
+    datas = dict(messages)
+    if m in datas:
+        return entry_bytes(m, length, 0, 0, 0, plan[5], 0, 1, 1, datas[m])
+    return entry_bytes(m, length, int(dst, 2), leap, row, plan[5], 0, 1)
 
 
-def long(plan, first, count):
-    bits = write(plan, first, count, 65536)[1]
-    n, used, refusal, _ = read_recording(bits, [0] * 12000, 12000)
-    case("l", f"{plan_text(plan)} sends {first} {count}", f" {len(bits)}:" + spaced(n, used, told("later frame", refusal)))
+def sent_bits(plan, first, count, messages):
+    """The bits of a recording. It is read as sent, unless its first frame is a message."""
+    bits = write(plan, first, count, 65536, messages)[1]
+    entries = [b for m in range(first, first + count) for b in sent_entry(plan, messages, m)]
+    as_sent = (0, 0, 19, []) if first in dict(messages) else (count, len(bits), 0, entries)
+    assert read_recording(bits, [], count * ENTRY)[:4] == as_sent
+    return bits
+
+
+def carried(plan, first, count, messages=()):
+    bits = sent_bits(plan, first, count, messages)
+    text = f"{plan_text(plan)} sends {first} {count}{messages_text(messages)}"
+    case("c", text, entries_text(bits, count * ENTRY))
+
+
+def long(plan, first, count, messages=()):
+    bits = sent_bits(plan, first, count, messages)
+    n, used, refusal, _, _ = read_recording(bits, [], 1000 * ENTRY)
+    text = f"{plan_text(plan)} sends {first} {count}{messages_text(messages)}"
+    case("l", text, f" {len(bits)}:" + spaced(n, used, told_reading("later" if n else "first", bits[used:], refusal)))
+
+
+def resumed(label, bits, minute, leap, space=ENTRY, alone=True):
+    """Bits read in a state: as one frame, but for more of them, and as a recording."""
+    answer = ""
+    if alone:
+        refusal, buffer, (m, l) = read_one(bits, [7] * (space + 2), space, (minute, leap))
+        answer = f":{spaced(told_reading('one later', bits, refusal))}, then{spaced(m, l, '|', *buffer)}"
+    n, used, refusal, buffer, (m, l) = read_recording(bits, [7] * (space + 2), space, (minute, leap))
+    answer += f":{spaced(n, used, told_reading('later', bits[used:], refusal))}, then{spaced(m, l, '|', *buffer)}"
+    case("i" if alone else "u", f"space {space}, minute {minute}, leap {leap}, {label}", answer, given(bits))
+
+
+def in_pieces(label, start, piece, times):
+    """A recording that begins with some bits and goes on with others so many times, read piece by piece into two entries."""
+    n, used, state, buffer = 0, 0, None, [7] * 2 * ENTRY
+    for part in [start] + [piece] * times:
+        more, bits_used, refusal, buffer, state = read_recording(part, buffer, len(buffer), state)
+        n, used = n + more, used + bits_used
+    told_reading("later", piece[bits_used:], refusal)
+    text = f"{len(start)} bits, then {times} times the others: {label}"
+    case("n", text, f":{spaced(n, used, refusal)}, then{spaced(*state, '|', *buffer)}", given(start + piece))
 
 
 def edited(plan, m, at, value, n):
     bits = frame(plan, m)
     bits += [0] * (64 - len(bits))
     bits[at] = value
-    one(f"{plan_text(plan)} sends {m} with byte {at} at {value}, bytes {n}", bits, n, 12)
-    recording("the same, as a recording", bits, n, 36)
+    one(f"{plan_text(plan)} sends {m} with byte {at} at {value}, bytes {n}", bits, n, ENTRY)
+    recording("the same, as a recording", bits, n, 3 * ENTRY)
 
 
 def joined(plan, m, other, k):
-    recording(f"{plan_text(plan)} sends {m}, then {plan_text(other)} {k}", frame(plan, m) + frame(other, k), 120, 36)
+    recording(f"{plan_text(plan)} sends {m}, then {plan_text(other)} {k}", frame(plan, m) + frame(other, k), 120, 3 * ENTRY)
 
 
 def damaged(bits, question):
     """A frame of 60 bits in which the check, 7 to 11 or 13, fails."""
-    bits = list(bits)
-    if question == 7:
-        bits[29] = 2
-    elif question == 8:
-        bits[12] ^= 1
-    elif question == 9:
-        for at, b in zip(STATE_AT, "00010"):
-            bits[at] = int(b)
-    elif question == 10:
-        bits[53:59] = [0] * 6
-    elif question == 11:
-        for at, b in zip(PLACE_BITS, code_word(LAST + 1)):
-            bits[at] = int(b)
-        bits[19] = (LAST + 1) % 2
-        bits[29] = bits[39] = 0
-    elif question == 13:
-        bits[59] = 1
-    else:
-        bits[39] = 1
-    return bits
+    words = {
+        7: [([29], [2])],
+        8: [([12], [1 - bits[12]])],
+        9: [(STATE_AT, "00010")],
+        10: [(NEXT_AT, "000000")],
+        11: [(PLACE_BITS, code_word(LAST + 1)), ([19, 29, 39], [(LAST + 1) % 2, 0, 0])],
+        13: [([59], [1])],
+    }
+    return with_words(bits, *words.get(question, [([39], [1])]))
 
 
 def first(question, also, n, space):
@@ -608,13 +733,13 @@ def received(plan, m, place, free):
         bits[PLACE_BITS[place - 1]] ^= 1
     bits[19], bits[29], bits[39] = free
     length, dst, leap, row = facts(plan, m)
-    return bits, [*m.to_bytes(4, "big"), length, int(dst, 2), leap, row, plan[5], place, int(free[0] == m % 2), 0]
+    return bits, entry_bytes(m, length, int(dst, 2), leap, row, plan[5], place, int(free[0] == m % 2))
 
 
 def heard(plan, m, place, free):
     bits, entry = received(plan, m, place, free)
-    assert read_one(bits, [], 12) == (0, entry)
-    one(f"{plan_text(plan)} sends {m}, place {place}, bits 19 29 39{spaced(*free)}", bits, len(bits), 12)
+    assert read_one(bits, [], ENTRY)[:2] == (0, entry)
+    one(f"{plan_text(plan)} sends {m}, place {place}, bits 19 29 39{spaced(*free)}", bits, len(bits), ENTRY)
 
 
 def all_heard(plan, m, places, frees):
@@ -622,14 +747,15 @@ def all_heard(plan, m, places, frees):
     frames = [received(plan, m + k, place, free) for k, (place, free) in enumerate(zip(places, frees))]
     bits = [b for f, _ in frames for b in f]
     entries = [b for _, e in frames for b in e]
-    assert read_recording(bits, [], len(entries)) == (len(frames), len(bits), 0, entries)
+    assert read_recording(bits, [], len(entries))[:4] == (len(frames), len(bits), 0, entries)
     label = f"{plan_text(plan)} sends {m}, places{spaced(*places)}, bits 19 29 39{spaced(*map(digits, frees))}"
     recording(label, bits, len(bits), len(entries))
 
 
-def amplitude_written(plan, m, sign, tenths, space=64):
-    """A minute written into so many bytes of 64, and read. What is read is as sent, by plan, minute and UT1."""
-    refusal, symbols = write_amplitude(plan, m, sign, tenths, space)
+def amplitude_written(plan, m, sign, tenths, space=64, messages=(), size=None):
+    """A minute written into so many bytes of 64, and read. What is read is as sent, by plan, minute and UT1. So many bytes of the
+    messages are given, or all."""
+    refusal, symbols = write_amplitude(plan, m, sign, tenths, space, messages_in(message_bytes(messages)[:size]))
     out = symbols + [7] * (64 - len(symbols))
     answer = spaced(told("writing the amplitude code", refusal), len(symbols), digits(out))
     if not refusal:
@@ -637,7 +763,7 @@ def amplitude_written(plan, m, sign, tenths, space=64):
         read = read_amplitude(symbols)
         assert read == (0, *shown(date_of(m)), sign, tenths, int(leap != 0), dst, length)
         answer += ":" + spaced(told("reading the amplitude code", read[0]), *read[1:])
-    case("e", f"{plan_text(plan)} minute {m}, UT1 {sign} {tenths}, in {space}:", answer)
+    case("e", f"{plan_text(plan)} minute {m}, UT1 {sign} {tenths}, in {space}{messages_text(messages, size)}:", answer)
 
 
 def amplitude_read(label, symbols):
@@ -690,13 +816,13 @@ def tables():
         zero(*pair)
     for w in range(32):
         word = f"{w:05b}"
-        one(f"state word {word[:2]} {word[2:]}", example((STATE_AT, word), (NEXT_AT, "100011")), 60, 12)
+        one(f"state word {word[:2]} {word[2:]}", example((STATE_AT, word), (NEXT_AT, "100011")), 60, ENTRY)
     for state in ("01000", "00011"):
         for w in range(64):
             word = f"{w:06b}"
             name = f" (reserved {RESERVED[word]})" if word in RESERVED else ""
             label = f"next-change word {word}{name} in state {state[:2]} {state[2:]}"
-            one(label, example((STATE_AT, state), (NEXT_AT, word)), 60, 12)
+            one(label, example((STATE_AT, state), (NEXT_AT, word)), 60, ENTRY)
     for bit in PLACE_BITS:
         table_10(bit, 99)
         table_10(bit, 19)
@@ -807,24 +933,27 @@ def refused_readings():
     handed = lambda q, n, space: (n - 2 if q == 6 else n, space - 1 if q == 5 else space)
     questions = (5, 6, 7, 8, 9, 10, 11, 13)
     for q in questions:
-        first(q, 0, *handed(q, 60, 12))
+        first(q, 0, *handed(q, 60, ENTRY))
     for q, also in zip(questions, questions[1:]):
-        first(q, also, 58 if q < 7 else 60, 11 if q == 5 else 12)
+        first(q, also, 58 if q < 7 else 60, ENTRY - 1 if q == 5 else ENTRY)
     for q in questions:
-        third(q, 0, JULY_4 + 2, *handed(q, 180, 36))
-    third(14, 0, JULY_4 + 3, 180, 36)
-    third(14, 0, JULY_4 + 1, 180, 36)
+        third(q, 0, JULY_4 + 2, *handed(q, 180, 3 * ENTRY))
+    third(14, 0, JULY_4 + 3, 180, 3 * ENTRY)
+    third(14, 0, JULY_4 + 1, 180, 3 * ENTRY)
     for q, also in zip(questions, questions[1:]):
-        third(q, also, JULY_4 + 2, 178 if q < 7 else 180, 35 if q == 5 else 36)
-    third(13, 14, JULY_4 + 3, 180, 36)
-    for n, space in ((180, 36), (120, 24), (121, 24), (121, 36), (179, 36)):
+        third(q, also, JULY_4 + 2, 178 if q < 7 else 180, 3 * ENTRY - 1 if q == 5 else 3 * ENTRY)
+    third(13, 14, JULY_4 + 3, 180, 3 * ENTRY)
+    for n, space in ((180, 3 * ENTRY), (120, 2 * ENTRY), (121, 2 * ENTRY), (121, 3 * ENTRY), (179, 3 * ENTRY)):
         third(0, 0, JULY_4 + 2, n, space)
-    one("no bits, one frame", [], 0, 12)
+    # entry space that would do for entries of 12 bytes
+    first(0, 0, 60, 12)
+    third(0, 0, JULY_4 + 2, 180, 3 * 12)
+    one("no bits, one frame", [], 0, ENTRY)
     one("no bits and no space, one frame", [], 0, 0)
-    recording("no bits", [], 0, 38)
+    recording("no bits", [], 0, 3 * ENTRY + 2)
     recording("no bits and no space", [], 0, 0)
-    recording("one bit", [0], 1, 12)
-    recording("one bit and no space", [0], 1, 11)
+    recording("one bit", [0], 1, ENTRY)
+    recording("one bit and no space", [0], 1, ENTRY - 1)
 
 
 def echoes():
@@ -850,13 +979,13 @@ def echoes():
     # an echo that agrees with time[0] as received and not as repaired; two places taken for another minute
     before = frame(USUAL, JULY_4) + frame(USUAL, JULY_4 + 1)
     for at in ((46, 19), (46, 45), (46, 45, 19)):
-        recording(f"third frame, inverted{spaced(*at)}", before + inverted(frame(USUAL, JULY_4 + 2), *at), 180, 36)
+        recording(f"third frame, inverted{spaced(*at)}", before + inverted(frame(USUAL, JULY_4 + 2), *at), 180, 3 * ENTRY)
     # other questions, of a frame with a place repaired and a wrong echo
     for q, m in ((11, JULY_4 + 2), (13, JULY_4 + 2), (14, JULY_4 + 3)):
         bits = inverted(damaged(frame(USUAL, m), q), 19, 36)
         if q < 14:
-            one(f"one frame, no to {q}, inverted 19 36", bits, 60, 12)
-        recording(f"third frame, no to {q}, inverted 19 36", before + bits, 180, 36)
+            one(f"one frame, no to {q}, inverted 19 36", bits, 60, ENTRY)
+        recording(f"third frame, no to {q}, inverted 19 36", before + bits, 180, 3 * ENTRY)
 
 
 def one_inverted(plan, m, k):
@@ -867,8 +996,8 @@ def one_inverted(plan, m, k):
     entry = received(plan, m, place, (m % 2 ^ (k == 19), 0, 0))[1]
     entry[8] ^= k == 49
     refusal = 8 if k < 13 else 9 if k in STATE_AT else 10 if k in NEXT_AT else 13 if k > 58 else 0
-    assert read_one(bits, [], 12) == (refusal, [] if refusal else entry)
-    one(f"{plan_text(plan)} sends {m}, inverted {k}", bits, len(bits), 12)
+    assert read_one(bits, [], ENTRY)[:2] == (refusal, [] if refusal else entry)
+    one(f"{plan_text(plan)} sends {m}, inverted {k}", bits, len(bits), ENTRY)
 
 
 def inversions():
@@ -1193,6 +1322,282 @@ def listings():
     listed(f"{LISTING_SPACE - 1} bytes", "0 10 37 1199 1 0 52595000 1000", space=LISTING_SPACE - 1)
 
 
+DATA = 0x123456789AB
+MOST = 2**42 - 1
+MONTH_END = 6_573_599                          # of June 2012
+
+
+def messages_from(m, *datas):
+    """Messages in minutes one after the other."""
+    return [(m + k, data) for k, data in enumerate(datas)]
+
+
+def message_writings():
+    """Plans with messages, written."""
+    m = JULY_4
+    # each bit of the data alone; none and all of them, with either notice
+    for k in range(0, 42, 2):
+        written((1, 0, 0, 0, 0, 0), 0, 2, 124, messages_from(0, 1 << k, 2 << k))
+    for notice in (0, 1):
+        for data in (0, MOST):
+            written((0, 10, 37, 0, 0, notice), m, 2, 124, messages_from(m, data, data))
+    # in the first place and in the last, by each kind; outside, beside it and far away
+    for plan in (USUAL, (1, 0, 0, 0, 0, 1), (2, 0, 0, 0, 0, 0), LAW):
+        for at in (m, m + 1):
+            written(plan, m, 2, 124, [(at, DATA)])
+    for messages in ([(m - 1, 5), (m + 2, 6)], [(0, 5), (m + 1, 6), (LAST, 7)], [(0, 1), (1, 2), (2, 3), (m, 4)],
+                     [(m + 1, 1), (m + 2, 2), (LAST - 1, 3), (LAST, 4)]):
+        written(USUAL, m, 2, 124, messages)
+    written(USUAL, 0, 2, 124, [(0, DATA), (LAST, 7)])
+    written(USUAL, LAST, 1, 61, [(0, 7), (LAST, DATA)])
+    # alone; a month's last minute of each length, into a byte too few and exactly enough
+    for plan in (USUAL, LONG, SHORT):
+        sent(plan, MONTH_END, [(MONTH_END, DATA)])
+        length, _, _, _ = facts(plan, MONTH_END)
+        for space in (length - 1, length):
+            written(plan, MONTH_END, 1, space, [(MONTH_END, MOST)])
+    sent(USUAL, m, [(m, DATA)])
+
+
+def message_refusals_written():
+    """Question 1 of messages, in a first and a last place; and the other questions."""
+    m = JULY_4
+    # data
+    for data in (MOST, MOST + 1, 2**43, 2**48 - 1):
+        for messages in ([(m, data)], messages_from(m, data, 2, 3, 4), messages_from(m, 1, 2, 3, data)):
+            written(USUAL, m, 1, 60, messages)
+    # minutes in range, and strictly rising
+    for minute in (LAST, LAST + 1, 2**26 - 1, 2**32 - 1):
+        for others in ((), (0, 1, m)):
+            written(USUAL, m, 1, 60, [(other, 9) for other in (*others, minute)])
+    written(USUAL, m, 1, 60, messages_from(LAST + 1, 1, 2))
+    for minutes in ((m, m), (m, m - 1), (5, 5, 6, 7), (6, 5, 7, 8), (5, 6, 6, 7), (5, 7, 6, 8), (5, 6, 7, 7), (5, 6, 7, 6),
+                    (6, 7, 8, 5), (8, 5, 6, 7), (5, 6, 7, 8)):
+        written(USUAL, m, 1, 60, [(minute, 9) for minute in minutes])
+    # no bytes, bytes that are no messages, and too many
+    for size in (0, 1, 5, 9, 10, 11, 15, 19, 20, 30, 35, 39, 40, 41, 45, 49, 50):
+        written((1, 0, 0, 0, 0, 0), 0, 2, 124, messages_from(0, 1, 2, 3, 4, 5), size)
+    # 1 before 2, 3 and 4
+    for numbers in ((m, 0, 60), (LAST, 2, 120), (m, 1, 0), (2**32 - 1, 0, 0)):
+        written(USUAL, *numbers, [(m, MOST + 1)])
+    for plan in ((4, 10, 37, 0, 0, 0), (0, 10, 49, 0, 0, 0), (0, 10, 37, 149, 0, 0), (0, 10, 37, 0, 0, 2)):
+        written(plan, m, 1, 60, [(m, DATA)])
+    written((0, 10, 37, 0, 0, 2), m, 1, 60, [(m, MOST + 1)])
+    # 2, 3 and 4 with messages
+    for numbers in ((m, 0, 60), (m, 1001, 0), (LAST, 1001, 0), (LAST, 2, 0), (2**32 - 1, 1, 60), (m, 1, 59), (m - 1, 2, 119),
+                    (m - 1, 2, 120)):
+        written(USUAL, *numbers, [(m, DATA)])
+
+
+def message_recordings():
+    """Plans with messages, sent and read."""
+    m = JULY_4
+    none, whole = (1, 0, 0, 0, 0, 1), (2, 0, 0, 0, 0, 0)
+    for notice in (0, 1):
+        carried((0, 10, 37, 0, 0, notice), m, 3, [(m + 1, DATA)])
+    # first of a recording, whatever comes after it; last; two in a row; four in a row and with a time frame between; each kind
+    for messages in ([(m, DATA)], messages_from(m, 1, 2, 3, 4), [(m + 2, DATA)], messages_from(m + 1, 0, MOST)):
+        carried(USUAL, m, 3, messages)
+    for plan in (USUAL, none, whole, LAW):
+        carried(plan, m, 6, messages_from(m + 1, 1, 2, 3, 4))
+        carried(plan, m, 9, [(m + 1, 5), (m + 3, 6), (m + 5, 7), (m + 7, 8)])
+    # each bit of the data
+    for k in range(0, 40, 4):
+        carried(USUAL, m, 5, messages_from(m + 1, 1 << k, 2 << k, 4 << k, 8 << k))
+    carried(USUAL, m, 3, messages_from(m + 1, 1 << 40, 1 << 41))
+    # about a month's end, with each leap state: after a time frame of that month, and over the end from its last minute on
+    for plan in (USUAL, LONG, SHORT):
+        carried(plan, MONTH_END - 1, 3, [(MONTH_END, MOST)])
+        carried(plan, MONTH_END - 1, 3, [(MONTH_END, 0), (MONTH_END + 1, 6)])
+        carried(plan, MONTH_END - 2, 4, messages_from(MONTH_END - 1, 1, MOST))
+        carried(plan, MONTH_END - 2, 5, messages_from(MONTH_END - 1, 1, 2, 3, 4))
+        carried(plan, MONTH_END, 4, messages_from(MONTH_END + 1, 1, 2, 3))
+        long(plan, MONTH_END - 499, 1000, [(MONTH_END - 498, 1), *messages_from(MONTH_END, 2, 3), (MONTH_END + 500, 4)])
+    long(USUAL, m, 1000, [(m, 1)])
+    # the months beside the leap month
+    for plan in (LONG, SHORT):
+        for end in (last_minute(148), last_minute(150)):
+            carried(plan, end - 1, 3, messages_from(end, 1, 2))
+    # the ends of other months, of the century, and the first minutes
+    for month in (0, 1, 133, 145, 1199):
+        for sign in (1, -1):
+            end = last_minute(month)
+            carried((3, 10, 37, month, sign, 1), end - 1, 2, [(end, DATA)])
+    carried(USUAL, LAST - 1, 2, [(LAST, DATA)])
+    carried(USUAL, 0, 5, messages_from(1, 1, 2, 3, 4))
+
+
+def later_message(what, bits, n=120, space=3 * ENTRY):
+    recording(f"a message after a time frame, {what}", frame(USUAL, JULY_4) + bits, n, space)
+
+
+def last_message(what, bits, n=180, space=3 * ENTRY):
+    before = frame(USUAL, JULY_4) + message(USUAL, JULY_4 + 1, DATA)
+    recording(f"a message in the last place, {what}", before + bits, n, space)
+
+
+def message_refusals_read():
+    """Messages refused, alone, first, later and last."""
+    m = JULY_4
+    time, second, third = frame(USUAL, m), message(USUAL, m + 1, DATA), message(USUAL, m + 2, MOST)
+    byte = lambda at, value: changed(second, (at, [value]))
+    # 5, 6, 7, 8 and 19, alone and first; the length, byte 59, and bits 19, 29 and 39 do not matter
+    for what, bits, space in (("", second, ENTRY), (", space 17", second, ENTRY - 1), (", 58 bits", second[:58], ENTRY),
+                              (", byte 0 at 2", byte(0, 2), ENTRY), (", byte 58 at 255", byte(58, 255), ENTRY),
+                              (", inverted 12", inverted(second, 12), ENTRY)):
+        one(f"a message alone{what}", bits, len(bits), space)
+        recording(f"a message first{what}", bits, len(bits), space)
+    recording("a message first, then a time frame", second + frame(USUAL, m + 2), 120, 3 * ENTRY)
+    one("a message alone, space 12", second, 60, 12)
+    one("a message alone, 58 bits, space 17", second, 58, ENTRY - 1)
+    for what, bits in (("58 bits, byte 0 at 2", byte(0, 2)[:58]), ("byte 0 at 2, inverted 1", inverted(byte(0, 2), 1)),
+                       ("59 bits", second[:59]), ("61 bits", second + [0]), ("byte 59 at 1", byte(59, 1)),
+                       ("byte 59 at 255", byte(59, 255)), ("inverted 19 29 39", inverted(second, 19, 29, 39))):
+        one(f"a message alone, {what}", bits, len(bits), ENTRY)
+    for k in range(12):
+        one(f"a message alone, inverted {k}", inverted(second, k), 60, ENTRY)
+    # 5, 6, 7 and 8 of a later one, and which comes first
+    for space in (2 * ENTRY, 2 * ENTRY - 1, ENTRY, 24):
+        later_message(f"space {space}", second, space=space)
+    later_message("58 bits, space 35", second, 118, 2 * ENTRY - 1)
+    later_message("58 bits", second, 118)
+    later_message("58 bits, byte 0 at 2", byte(0, 2), 118)
+    later_message("byte 0 at 2", byte(0, 2))
+    later_message("byte 58 at 255", byte(58, 255))
+    later_message("byte 58 at 2, inverted 12", inverted(byte(58, 2), 12))
+    for at in ((0,), (12,), (12, 19, 59)):
+        later_message(f"inverted{spaced(*at)}", inverted(second, *at))
+    # 9 and 10 are not asked, and bits 29 and 39 not read
+    later_message("state and next-change bits illegal", with_words(second, (STATE_AT, "00010"), (NEXT_AT, "000000")))
+    later_message("inverted 29 39", inverted(second, 29, 39))
+    # 13, 14, and both
+    later_message("59 bits", second, 119)
+    later_message("byte 59 at 255", byte(59, 255))
+    later_message("inverted 19, 59 bits", inverted(second, 19), 119)
+    for at in ((59,), (19,), (19, 59)):
+        later_message(f"inverted{spaced(*at)}", inverted(second, *at))
+    # the last of three; a time frame after a message
+    for at in ((12,), (59,), (19,)):
+        last_message(f"inverted{spaced(*at)}", inverted(third, *at))
+    last_message("space 53", third, space=3 * ENTRY - 1)
+    last_message("58 bits", third, 178)
+    last_message("byte 58 at 2", changed(third, (58, [2])))
+    for q in (8, 9, 10, 11, 13):
+        bits = time + second + damaged(frame(USUAL, m + 2), q)
+        recording(f"a time frame after a message, no to {q}", bits, 180, 3 * ENTRY)
+    for k in (m + 1, m + 2, m + 3):
+        recording(f"a time frame after a message, minute {k}", time + second + frame(USUAL, k), 180, 3 * ENTRY)
+    # two minutes lost between messages show at the next time frame
+    for k in (m + 3, m + 5):
+        bits = time + second + message(USUAL, m + 4, 5) + frame(USUAL, k)
+        recording(f"two minutes lost between messages, then {k}", bits, 240, 4 * ENTRY)
+    # more messages than a plan can have
+    recording("five messages", time + [b for k in range(1, 6) for b in message(USUAL, m + k, k)], 360, 6 * ENTRY)
+    # 11 of the counted minute, before 13 and 14
+    after = message(USUAL, LAST + 1, 1)
+    for at in ((), (19,), (59,), (5,)):
+        bits = frame(USUAL, LAST) + inverted(after, *at)
+        recording(f"a message after the last minute, inverted{spaced(*at)}", bits, 120, 3 * ENTRY)
+    bits = frame(USUAL, LAST - 1) + message(USUAL, LAST, 1) + after
+    recording("a message in the last minute and after it", bits, 180, 3 * ENTRY)
+    # time frames about messages, with an inverted place and other bits 19, 29 and 39
+    for place, free in ((31, (0, 1, 0)), (17, (1, 0, 1))):
+        bits = received(USUAL, m, place, free)[0] + second + third + received(USUAL, m + 3, 32 - place, free)[0]
+        recording(f"messages between places {place} and {32 - place}, bits 19 29 39{spaced(*free)}", bits, 240, 4 * ENTRY)
+
+
+def message_lengths():
+    """A message in a month's last minute, long by the leap state last read or by the one before."""
+    m = MONTH_END
+    plans = (USUAL, SHORT, LONG)
+    for before, leap in ((0, 1), (0, 2), (1, 0), (1, 2), (2, 0), (2, 1)):
+        for other in (leap, before):
+            bits = frame(plans[leap], m - 1) + message(plans[other], m, 77)
+            resumed(f"a time frame, leap {leap}, then a message, leap {other}", bits, m - 1, before, 2 * ENTRY, alone=False)
+    for plan in plans:
+        bits = frame(LONG, m - 2) + frame(USUAL, m - 1) + message(plan, m, 77)
+        recording(f"leap 2, leap 0, then a message of {facts(plan, m)[0]} bits", bits, len(bits), 3 * ENTRY)
+
+
+def message_states():
+    """Frames read in a state; leap 3 is not known."""
+    m, july = MONTH_END, JULY_4
+    for leap in range(4):
+        for plan in (SHORT, USUAL, LONG):
+            bits = message(plan, m, DATA)
+            resumed(f"a message of {len(bits)} bits", bits, m, leap)
+        resumed("a message", message(USUAL, m - 1, MOST), m - 1, leap)
+    resumed("a message", message(USUAL, m + 1, 5), m + 1, 3)
+    # 20 after 5 to 8, and before 13 and 14; these without 20
+    last = message(USUAL, m, DATA)
+    resumed("a message", last, m, 3, ENTRY - 1)
+    resumed("a message of 58 bits", last[:58], m, 3)
+    for leap in (3, 0):
+        resumed("a message, byte 58 at 2", changed(last, (58, [2])), m, leap)
+        for at in ((0,), (19,), (59,), (19, 59)):
+            resumed(f"a message, inverted{spaced(*at)}", inverted(last, *at), m, leap)
+    for at in (59, 60):
+        resumed(f"a message, inverted {at}", inverted(message(LONG, m, DATA), at), m, 2)
+    # the last minute and the one after it
+    for leap, plan in enumerate((USUAL, (0, 10, 37, 1199, -1, 0), (0, 10, 37, 1199, 1, 0), USUAL)):
+        resumed("a message", message(plan, LAST, MOST), LAST, leap)
+    after = message(USUAL, LAST + 1, 1)
+    resumed("a message of 59 bits", after[:59], LAST + 1, 3)
+    for at in ((), (5,), (19,)):
+        resumed(f"a message, inverted{spaced(*at)}", inverted(after, *at), LAST + 1, 3)
+    # time frames: 20 is not asked, and the state is theirs
+    for plan in (USUAL, LONG, SHORT):
+        for minute in (m - 1, m, m + 1):
+            resumed("a time frame", frame(plan, minute), minute, 3)
+    for minute in (m - 2, m):
+        resumed("a time frame", frame(LONG, m - 1), minute, 0)
+    for q in (7, 8, 9, 10, 11, 13):
+        resumed(f"a time frame, no to {q}", damaged(frame(USUAL, july), q), july, 0)
+    resumed("a time frame of 58 bits", frame(USUAL, july)[:58], july, 0)
+    resumed("a time frame", frame(USUAL, july), july, 0, ENTRY - 1)
+    # over the ends of months, and beside them
+    for d in ((2000, 2, 1), (2000, 2, 29), (2001, 3, 1), (2012, 2, 29), (2012, 3, 1), (2012, 5, 1), (2013, 1, 1)):
+        minute = minute_of(*d)
+        bits = message(USUAL, minute - 1, 1) + message(USUAL, minute, 2)
+        resumed("two messages", bits, minute - 1, 0, 2 * ENTRY, alone=False)
+        bits = message(USUAL, minute - 2, 1) + message(USUAL, minute - 1, 2)
+        resumed("two messages", bits, minute - 2, 3, 2 * ENTRY, alone=False)
+
+
+def message_months():
+    """A month of messages, the only way from a recording to 20. The program has no space for its bits and entries: it is read in
+    pieces, each in the state that the one before left."""
+    none = (1, 0, 0, 0, 0, 0)
+    m = minute_of(2001, 2, 1)
+    pair = lambda minute: message(none, minute, 5) + message(none, minute + 1, MOST)
+    in_pieces("a message in each minute of February, after January's last", frame((1, 0, 0, 12, 1, 0), m - 1), pair(m), 20_160)
+    # after a time frame of that month, with each leap state
+    for sign in (0, -1, 1):
+        start = frame((1, 0, 0, 13 if sign else 0, sign, 0), m)
+        in_pieces("a message in each minute of February but the first", start, pair(m + 1), 20_160)
+
+
+def message_amplitude():
+    """The amplitude code of a plan with messages is as without them, but for question 1."""
+    m = JULY_4
+    for messages in ([(m, DATA)], [(m, MOST)], messages_from(m, 1, 2, 3, 4), messages_from(m - 3, 1, 2, 3, 4), [(0, 1), (LAST, 2)]):
+        amplitude_written(USUAL, m, 1, 4, messages=messages)
+    for plan in (USUAL, LONG, SHORT):
+        amplitude_written(plan, MONTH_END, -1, 6, messages=[(MONTH_END, DATA)])
+    # 1: data, minutes in range and strictly rising, in a first and a last place
+    for data in (MOST + 1, 2**48 - 1):
+        for messages in (messages_from(m, data, 2, 3, 4), messages_from(m, 1, 2, 3, data)):
+            amplitude_written(USUAL, m, 1, 4, messages=messages)
+    for minutes in ((LAST + 1,), (0, 1, m, LAST + 1), (m, m), (5, 5, 6, 7), (5, 6, 7, 7), (8, 5, 6, 7), (5, 6, 8, 7)):
+        amplitude_written(USUAL, m, 1, 4, messages=[(minute, 9) for minute in minutes])
+    for size in (0, 9, 10, 11, 39, 40, 41, 50):
+        amplitude_written(USUAL, m, 1, 4, 60, messages_from(0, 1, 2, 3, 4, 5), size)
+    # 1 before 3, 18 and 4; these with a message
+    for data in (MOST + 1, DATA):
+        for numbers in ((LAST + 1, 0, 10, 0), (m, 0, 10, 0), (m, 1, 4, 59)):
+            amplitude_written(USUAL, *numbers, [(m, data)])
+
+
 def main():
     tables()
     calendar_lines()
@@ -1207,6 +1612,14 @@ def main():
     law_frames()
     law_refusals()
     law_amplitude()
+    message_writings()
+    message_refusals_written()
+    message_recordings()
+    message_refusals_read()
+    message_lengths()
+    message_states()
+    message_months()
+    message_amplitude()
     listings()
     assert GIVEN == NUMBERS
     text = "\n".join(LINES) + "\n"

@@ -15,8 +15,9 @@ use Rattle.questions.specs.Questions.{AllYes, FirstNo, numbersOf, oneOf}
 use Rattle.questions.proofs.Laws.{accepted-when, refused-when, answers-in, listed}
 use Rattle.calendar.specs.Calendar.{minuteCount, maxMinute}
 use Rattle.calendar.proofs.Answers.{values-when, number-alone-when, no-other}
-use Rattle.plan.specs.Plan.{legalPlan, lengthAt}
-use Rattle.plan.specs.declared.Plan.{Plan}
+use Rattle.plan.specs.Plan.{lengthAt}
+use Rattle.messages.specs.Message.{Schedule, legalSchedule}
+use Rattle.messages.proofs.Schedules.{plan-legal}
 use Rattle.amplitude_rules.specs.declared.Values.{Values}
 use Rattle.amplitude_rules.specs.Amplitude.{legalUT1, symbols}
 use Rattle.amplitude_rules.specs.Reading.{layoutFits, valuesIn, fieldsFit, readQuestions, refused, accepted, readAmplitude}
@@ -24,7 +25,7 @@ use Rattle.amplitude_rules.specs.Writing.{valuesAt, writeQuestions, writ
 use Rattle.amplitude_rules.specs.Theorems.{AmplitudeReadOrder, AmplitudeReadAccepted, AmplitudeReadRefused, AmplitudeReadAnswers}
 use Rattle.amplitude_rules.specs.Theorems.{AmplitudeReadFacts, AmplitudeWriteOrder, AmplitudeWriteAccepted, AmplitudeWriteRefused}
 use Rattle.amplitude_rules.specs.Theorems.{AmplitudeWriteAnswers, AmplitudeWriteFacts, AmplitudeDone, AmplitudeWriteDone}
-use Rattle.amplitude_rules.specs.Theorems.{AmplitudeWriteUndone, writeRefusals}
+use Rattle.amplitude_rules.specs.Theorems.{AmplitudeWriteUndone, SameSymbols, writeRefusals}
 use Rattle.amplitude_rules.proofs.Facts.{Legal}
 use Rattle.amplitude_rules.proofs.ReadBack.{length-of}
 use Rattle.amplitude_rules.proofs.Exact.{not-refused}
@@ -96,7 +97,7 @@ amplitude-read-facts =
       values18 = λ s. Iff·trans (read-refused s 18) (eighteen s);
     }
 
-module _ (p : Plan) (t : ℕ) (sign : ℤ) (tenths space : ℕ) where
+module _ (p : Schedule) (t : ℕ) (sign : ℤ) (tenths space : ℕ) where
   abbrev First : ℕ → Type 0
   First k = FirstNo (writeQuestions p t sign tenths space) k
 
@@ -106,48 +107,48 @@ module _ (p : Plan) (t : ℕ) (sign : ℤ) (tenths space : ℕ) where
   is-early : leb t maxMinute ≡ true → t < minuteCount
   is-early h = omega (arith, leb-true t maxMinute h)
 
-  one : First 1 ↔ (legalPlan p ≡ false)
+  one : First 1 ↔ (legalSchedule p ≡ false)
   unfolding writeQuestions
   one = (there, λ h. inl (refl, h))
     where
-      there : First 1 → legalPlan p ≡ false
+      there : First 1 → legalSchedule p ≡ false
       there (inl h) = h .1
       there (inr (a, inl h)) = absurd (omega (arith, h .0))
       there (inr (a, inr (b, inl h))) = absurd (omega (arith, h .0))
       there (inr (a, inr (b, inr (c, inl h)))) = absurd (omega (arith, h .0))
       there (inr (a, inr (b, inr (c, inr h)))) = absurd (h .1)
 
-  three : First 3 ↔ ((legalPlan p ≡ true) × (minuteCount ≤ t))
+  three : First 3 ↔ ((legalSchedule p ≡ true) × (minuteCount ≤ t))
   unfolding writeQuestions
   three = (there, λ h. inr (h .0, inl (refl, lt-leb t maxMinute (omega (arith, h .1)))))
     where
-      there : First 3 → (legalPlan p ≡ true) × (minuteCount ≤ t)
+      there : First 3 → (legalSchedule p ≡ true) × (minuteCount ≤ t)
       there (inl h) = absurd (omega (arith, h .0))
       there (inr (a, inl h)) = (a, omega (arith, leb-false t maxMinute (h .1)))
       there (inr (a, inr (b, inl h))) = absurd (omega (arith, h .0))
       there (inr (a, inr (b, inr (c, inl h)))) = absurd (omega (arith, h .0))
       there (inr (a, inr (b, inr (c, inr h)))) = absurd (h .1)
 
-  ut1 : First 18 ↔ ((legalPlan p ≡ true) × (t < minuteCount) × (legalUT1 sign tenths ≡ false))
+  ut1 : First 18 ↔ ((legalSchedule p ≡ true) × (t < minuteCount) × (legalUT1 sign tenths ≡ false))
   unfolding writeQuestions
   ut1 = (there, λ h. inr (h .0, inr (early (h .1), inl (refl, h .2))))
     where
-      there : First 18 → (legalPlan p ≡ true) × (t < minuteCount) × (legalUT1 sign tenths ≡ false)
+      there : First 18 → (legalSchedule p ≡ true) × (t < minuteCount) × (legalUT1 sign tenths ≡ false)
       there (inl h) = absurd (omega (arith, h .0))
       there (inr (a, inl h)) = absurd (omega (arith, h .0))
       there (inr (a, inr (b, inl h))) = (a, is-early b, h .1)
       there (inr (a, inr (b, inr (c, inl h)))) = absurd (omega (arith, h .0))
       there (inr (a, inr (b, inr (c, inr h)))) = absurd (h .1)
 
-  four : First 4 ↔ ((legalPlan p ≡ true) × (t < minuteCount) × (legalUT1 sign tenths ≡ true) × (space < lengthAt p t))
+  four : First 4 ↔ ((legalSchedule p ≡ true) × (t < minuteCount) × (legalUT1 sign tenths ≡ true) × (space < lengthAt (p .plan) t))
   unfolding writeQuestions
-  four = (there, λ h. inr (h .0, inr (early (h .1), inr (h .2, inl (refl, lt-leb (lengthAt p t) space (h .3))))))
+  four = (there, λ h. inr (h .0, inr (early (h .1), inr (h .2, inl (refl, lt-leb (lengthAt (p .plan) t) space (h .3))))))
     where
-      there : First 4 → (legalPlan p ≡ true) × (t < minuteCount) × (legalUT1 sign tenths ≡ true) × (space < lengthAt p t)
+      there : First 4 → (legalSchedule p ≡ true) × (t < minuteCount) × (legalUT1 sign tenths ≡ true) × (space < lengthAt (p .plan) t)
       there (inl h) = absurd (omega (arith, h .0))
       there (inr (a, inl h)) = absurd (omega (arith, h .0))
       there (inr (a, inr (b, inl h))) = absurd (omega (arith, h .0))
-      there (inr (a, inr (b, inr (c, inl h)))) = (a, is-early b, c, leb-false (lengthAt p t) space (h .1))
+      there (inr (a, inr (b, inr (c, inl h)))) = (a, is-early b, c, leb-false (lengthAt (p .plan) t) space (h .1))
       there (inr (a, inr (b, inr (c, inr h)))) = absurd (h .1)
 
 pub amplitude-write-facts : AmplitudeWriteFacts
@@ -161,12 +162,12 @@ amplitude-write-facts p t sign tenths space =
 
 -- ---- the buffer after writing
 
-module _ (p : Plan) (t : ℕ) (sign : ℤ) (tenths : ℕ) (buffer : List ℕ) where
+module _ (p : Schedule) (t : ℕ) (sign : ℤ) (tenths : ℕ) (buffer : List ℕ) where
   abbrev n : ℕ
-  n = lengthAt p t
+  n = lengthAt (p .plan) t
 
   abbrev r : Values
-  r = valuesAt p t sign tenths
+  r = valuesAt (p .plan) t sign tenths
 
   abbrev after : List ℕ
   after = symbolsWritten p t sign tenths buffer
@@ -175,7 +176,7 @@ module _ (p : Plan) (t : ℕ) (sign : ℤ) (tenths : ℕ) (buffer : List ℕ) wh
   module _ (yes : AllYes (writeQuestions p t sign tenths (length buffer))) where
     fits : Legal r
     unfolding writeQuestions
-    fits = values-legal p t sign tenths (omega (arith, leb-true t maxMinute (yes .1 .0))) (yes .1 .1 .0)
+    fits = values-legal (p .plan) t sign tenths (omega (arith, leb-true t maxMinute (yes .1 .0))) (yes .1 .1 .0)
 
     room : n ≤ length buffer
     unfolding writeQuestions
@@ -194,7 +195,7 @@ module _ (p : Plan) (t : ℕ) (sign : ℤ) (tenths : ℕ) (buffer : List ℕ) wh
 
     reads : readAmplitude (symbols r) ≡ accepted r
     unfolding writeQuestions
-    reads = sent-reads p t sign tenths (yes .0) (omega (arith, leb-true t maxMinute (yes .1 .0))) (yes .1 .1 .0)
+    reads = sent-reads (p .plan) t sign tenths (plan-legal p (yes .0)) (omega (arith, leb-true t maxMinute (yes .1 .0))) (yes .1 .1 .0)
 
     done : AmplitudeDone p t sign tenths buffer
     done =
@@ -222,3 +223,17 @@ write-done = done
 
 pub write-undone : AmplitudeWriteUndone
 write-undone = undone
+
+-- ---- plans that differ in messages alone
+
+module _ (p q : Schedule) (t : ℕ) (sign : ℤ) (tenths : ℕ) (buffer : List ℕ) (lp : legalSchedule p ≡ true) (lq : legalSchedule q ≡ true) (e : p .plan ≡ q .plan) where
+  same-answers : writeAmplitude p t sign tenths (length buffer) ≡ writeAmplitude q t sign tenths (length buffer)
+  unfolding writeAmplitude writeQuestions
+  same-answers = rw (lp, lq, e)
+
+  same-buffers : symbolsWritten p t sign tenths buffer ≡ symbolsWritten q t sign tenths buffer
+  unfolding symbolsWritten
+  same-buffers = rw (same-answers, e)
+
+pub same-symbols : SameSymbols
+same-symbols p q t sign tenths buffer lp lq e = (same-answers p q t sign tenths buffer lp lq e, same-buffers p q t sign tenths buffer lp lq e)

@@ -19,9 +19,11 @@ use Rattle.codewords.specs.declared.LeapState.the-variants.{None, Negative, Pos
 use Rattle.plan.specs.Plan.{usualFrame, legalRows, legalLeap, legalPlan, daylightAt, leapOf, leapAt, leapLength, lengthAt}
 use Rattle.plan.proofs.Laws.{leap-in-month, leap-elsewhere, in-month-or-not}
 use Rattle.plan.specs.declared.Plan.{Plan}
+use Rattle.messages.proofs.Schedules.{plan-legal}
 use Rattle.format.specs.Frame.{sentBy}
 use Rattle.format.specs.Entry.{sentEntry}
 use Rattle.format.specs.Received.{withEcho, receivedEntry}
+use Rattle.sequence.proofs.Messages.{time-at}
 use Rattle.sequence.proofs.ReadBack.{single-reads-back}
 use Rattle.amplitude_rules.specs.Amplitude.{legalSign, legalUT1, lengthFits, legalValues}
 use Rattle.amplitude_rules.specs.Writing.{warningAt, valuesAt}
@@ -101,10 +103,10 @@ warned-month p t legal = go (in-month-or-not p t)
 -- ---- both codes
 
 pub both-codes : BothCodes
-both-codes p t sign tenths x buffer h l u i space = (
-  valuesAt p t sign tenths,
-  receivedEntry (sentBy p t) x,
-  sent-reads p t sign tenths h l u,
-  single-reads-back p t x buffer h l i space,
+both-codes p t sign tenths x buffer h k l u i space = (
+  valuesAt (p .plan) t sign tenths,
+  receivedEntry (sentBy (p .plan) t) x,
+  sent-reads (p .plan) t sign tenths (plan-legal p h) l u,
+  rw (time-at p h t k) (single-reads-back (p .plan) t x buffer (plan-legal p h) l i space),
   unfold valuesAt receivedEntry withEcho sentEntry sentBy in record { date = refl; entryDate = refl; daylight = refl; length = refl },
 )

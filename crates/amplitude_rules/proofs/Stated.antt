@@ -4,7 +4,7 @@ use Rattle.amplitude_rules.specs.Theorems.{ReadExactly, SymbolsApart, Fi
 use Rattle.amplitude_rules.specs.Theorems.{SentReads, WarnedMonth, BothCodes, Table10, OneSymbolMistaken, LeapMinutes, AmplitudeReadOrder}
 use Rattle.amplitude_rules.specs.Theorems.{AmplitudeReadAccepted, AmplitudeReadRefused, AmplitudeReadAnswers, AmplitudeReadFacts}
 use Rattle.amplitude_rules.specs.Theorems.{AmplitudeWriteOrder, AmplitudeWriteAccepted, AmplitudeWriteRefused, AmplitudeWriteAnswers}
-use Rattle.amplitude_rules.specs.Theorems.{AmplitudeWriteFacts, AmplitudeWriteDone, AmplitudeWriteUndone}
+use Rattle.amplitude_rules.specs.Theorems.{AmplitudeWriteFacts, AmplitudeWriteDone, AmplitudeWriteUndone, SameSymbols}
 use Rattle.amplitude_rules.proofs.Exact.{read-exactly, symbols-apart, accepted-lengths}
 use Rattle.amplitude_rules.proofs.Dates.{fields-of-date, digit-seconds, flag-seconds}
 use Rattle.amplitude_rules.proofs.Facts.{ut1-limits}
@@ -12,7 +12,7 @@ use Rattle.amplitude_rules.proofs.Seconds.{layout-seconds}
 use Rattle.amplitude_rules.proofs.Sent.{sent-reads, warned-month, both-codes}
 use Rattle.amplitude_rules.proofs.Examples.{table-10, one-symbol-mistaken, leap-minutes}
 use Rattle.amplitude_rules.proofs.Refusals.{read-order, read-accepted, read-refused, read-answers, amplitude-read-facts, write-order}
-use Rattle.amplitude_rules.proofs.Refusals.{write-accepted, write-refused, write-answers, amplitude-write-facts, write-done, write-undone}
+use Rattle.amplitude_rules.proofs.Refusals.{write-accepted, write-refused, write-answers, amplitude-write-facts, write-done, write-undone, same-symbols}
 
 read-exactly′ : ReadExactly
 read-exactly′ = read-exactly
@@ -91,3 +91,6 @@ write-done′ = write-done
 
 write-undone′ : AmplitudeWriteUndone
 write-undone′ = write-undone
+
+same-symbols′ : SameSymbols
+same-symbols′ = same-symbols

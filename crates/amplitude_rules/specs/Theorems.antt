@@ -16,7 +16,8 @@ use Rattle.calendar.specs.Calendar.{minuteCount, dateAt, monthIndex, lastOfMont
 use Rattle.calendar.specs.declared.Date.{Date}
 use Rattle.plan.specs.Plan.{legalPlan, lengthAt}
 use Rattle.plan.specs.declared.Plan.{Plan}
-use Rattle.format.specs.Frame.{sentBy, frame}
+use Rattle.messages.specs.Message.{Schedule, legalSchedule}
+use Rattle.format.specs.Message.{contentAt, TimeAt, frameOf}
 use Rattle.format.specs.Entry.{Entry, entrySize, entryBytes}
 use Rattle.format.specs.Received.{Reception, isReception, received}
 use Rattle.format.specs.Questions.{start}
@@ -128,14 +129,15 @@ pub record SameMinute (t : ℕ) (r : Values) (e : Entry) : Type 0 where
   pub daylight : r .daylight ≡ e .daylight
   pub length : r .seconds ≡ e .seconds
 
--- for one plan and minute both codes read to the same date, daylight state and length, whatever the frame's reception (document 02, 2)
+-- for one plan and minute both codes read to the same date, daylight state and length, whatever the frame's reception (document 02, 2);
+-- "slip 5 compares no message's minute" (document 02, 7), so that a time frame is sent in this one
 abbrev pub BothCodes : Type 0
 BothCodes =
-    (p : Plan) (t : ℕ) (sign : ℤ) (tenths : ℕ) (x : Reception) (buffer : List ℕ)
-    → legalPlan p ≡ true → t < minuteCount → legalUT1 sign tenths ≡ true → isReception x ≡ true → SpaceEnough 1 buffer
+    (p : Schedule) (t : ℕ) (sign : ℤ) (tenths : ℕ) (x : Reception) (buffer : List ℕ)
+    → legalSchedule p ≡ true → TimeAt p t → t < minuteCount → legalUT1 sign tenths ≡ true → isReception x ≡ true → SpaceEnough 1 buffer
     → (r : Values) × (e : Entry)
-    × (readAmplitude (symbols (valuesAt p t sign tenths)) ≡ accepted r)
-    × (_≡_ {A = OneOutcome} (readOne start buffer (received x (frame (sentBy p t)))) (record { refusal = 0; buffer = entryBytes e ++ drop entrySize buffer }))
+    × (readAmplitude (symbols (valuesAt (p .plan) t sign tenths)) ≡ accepted r)
+    × (_≡_ {A = OneOutcome} (readOne start buffer (received x (frameOf (contentAt p t)))) (record { refusal = 0; buffer = entryBytes e ++ drop entrySize buffer }))
     × SameMinute t r e
 
 -- ---- worked examples
@@ -207,55 +209,63 @@ abbrev pub writeRefusals : List ℕ
 writeRefusals = 1 ∷ 3 ∷ 18 ∷ 4 ∷ []
 
 abbrev pub AmplitudeWriteOrder : Type 0
-AmplitudeWriteOrder = (p : Plan) (t : ℕ) (sign : ℤ) (tenths space : ℕ) → numbersOf (writeQuestions p t sign tenths space) ≡ writeRefusals
+AmplitudeWriteOrder = (p : Schedule) (t : ℕ) (sign : ℤ) (tenths space : ℕ) → numbersOf (writeQuestions p t sign tenths space) ≡ writeRefusals
 
 -- 0 and the number of symbols exactly when every question is answered yes
 abbrev pub AmplitudeWriteAccepted : Type 0
 AmplitudeWriteAccepted =
-    (p : Plan) (t : ℕ) (sign : ℤ) (tenths space : ℕ)
-    → writeAmplitude p t sign tenths space ≡ found (lengthAt p t ∷ []) ↔ AllYes (writeQuestions p t sign tenths space)
+    (p : Schedule) (t : ℕ) (sign : ℤ) (tenths space : ℕ)
+    → writeAmplitude p t sign tenths space ≡ found (lengthAt (p .plan) t ∷ []) ↔ AllYes (writeQuestions p t sign tenths space)
 
 -- k alone exactly when the questions before k in the list are answered yes and question k is not
 abbrev pub AmplitudeWriteRefused : Type 0
 AmplitudeWriteRefused =
-    (p : Plan) (t : ℕ) (sign : ℤ) (tenths space k : ℕ)
+    (p : Schedule) (t : ℕ) (sign : ℤ) (tenths space k : ℕ)
     → writeAmplitude p t sign tenths space ≡ refusedWriting k ↔ FirstNo (writeQuestions p t sign tenths space) k
 
 -- there is no other answer, and a refusal is one of the numbers
 abbrev pub AmplitudeWriteAnswers : Type 0
 AmplitudeWriteAnswers =
-    (p : Plan) (t : ℕ) (sign : ℤ) (tenths space : ℕ)
-    → (writeAmplitude p t sign tenths space ≡ found (lengthAt p t ∷ []))
+    (p : Schedule) (t : ℕ) (sign : ℤ) (tenths space : ℕ)
+    → (writeAmplitude p t sign tenths space ≡ found (lengthAt (p .plan) t ∷ []))
     ⊎ ((k : ℕ) × (oneOf writeRefusals k ≡ true) × (writeAmplitude p t sign tenths space ≡ refusedWriting k))
 
--- without the list: 1 is about the plan, 3 about the minute, 18 about UT1, 4 about the buffer
-pub record WriteReasons (p : Plan) (t : ℕ) (sign : ℤ) (tenths space : ℕ) : Type 0 where
-  pub plan1 : writeAmplitude p t sign tenths space ≡ refusedWriting 1 ↔ (legalPlan p ≡ false)
-  pub minute3 : writeAmplitude p t sign tenths space ≡ refusedWriting 3 ↔ ((legalPlan p ≡ true) × (minuteCount ≤ t))
-  pub ut1-18 : writeAmplitude p t sign tenths space ≡ refusedWriting 18 ↔ ((legalPlan p ≡ true) × (t < minuteCount) × (legalUT1 sign tenths ≡ false))
+-- without the list: 1 is about the plan and its messages, 3 about the minute, 18 about UT1, 4 about the buffer
+pub record WriteReasons (p : Schedule) (t : ℕ) (sign : ℤ) (tenths space : ℕ) : Type 0 where
+  pub plan1 : writeAmplitude p t sign tenths space ≡ refusedWriting 1 ↔ (legalSchedule p ≡ false)
+  pub minute3 : writeAmplitude p t sign tenths space ≡ refusedWriting 3 ↔ ((legalSchedule p ≡ true) × (minuteCount ≤ t))
+  pub ut1-18 : writeAmplitude p t sign tenths space ≡ refusedWriting 18 ↔ ((legalSchedule p ≡ true) × (t < minuteCount) × (legalUT1 sign tenths ≡ false))
   pub space4 :
       writeAmplitude p t sign tenths space ≡ refusedWriting 4
-      ↔ ((legalPlan p ≡ true) × (t < minuteCount) × (legalUT1 sign tenths ≡ true) × (space < lengthAt p t))
+      ↔ ((legalSchedule p ≡ true) × (t < minuteCount) × (legalUT1 sign tenths ≡ true) × (space < lengthAt (p .plan) t))
 
 abbrev pub AmplitudeWriteFacts : Type 0
-AmplitudeWriteFacts = (p : Plan) (t : ℕ) (sign : ℤ) (tenths space : ℕ) → WriteReasons p t sign tenths space
+AmplitudeWriteFacts = (p : Schedule) (t : ℕ) (sign : ℤ) (tenths space : ℕ) → WriteReasons p t sign tenths space
 
 -- accepted: the symbols stand first in the buffer and read back as sent, and the bytes after them are as before
-pub record AmplitudeDone (p : Plan) (t : ℕ) (sign : ℤ) (tenths : ℕ) (buffer : List ℕ) : Type 0 where
-  pub written : take (lengthAt p t) (symbolsWritten p t sign tenths buffer) ≡ symbols (valuesAt p t sign tenths)
-  pub rest : drop (lengthAt p t) (symbolsWritten p t sign tenths buffer) ≡ drop (lengthAt p t) buffer
+pub record AmplitudeDone (p : Schedule) (t : ℕ) (sign : ℤ) (tenths : ℕ) (buffer : List ℕ) : Type 0 where
+  pub written : take (lengthAt (p .plan) t) (symbolsWritten p t sign tenths buffer) ≡ symbols (valuesAt (p .plan) t sign tenths)
+  pub rest : drop (lengthAt (p .plan) t) (symbolsWritten p t sign tenths buffer) ≡ drop (lengthAt (p .plan) t) buffer
   pub length : length (symbolsWritten p t sign tenths buffer) ≡ length buffer
-  pub read : readAmplitude (take (lengthAt p t) (symbolsWritten p t sign tenths buffer)) ≡ accepted (valuesAt p t sign tenths)
+  pub read : readAmplitude (take (lengthAt (p .plan) t) (symbolsWritten p t sign tenths buffer)) ≡ accepted (valuesAt (p .plan) t sign tenths)
 
 abbrev pub AmplitudeWriteDone : Type 0
 AmplitudeWriteDone =
-    (p : Plan) (t : ℕ) (sign : ℤ) (tenths : ℕ) (buffer : List ℕ)
+    (p : Schedule) (t : ℕ) (sign : ℤ) (tenths : ℕ) (buffer : List ℕ)
     → AllYes (writeQuestions p t sign tenths (length buffer))
     → AmplitudeDone p t sign tenths buffer
 
 -- refused: the buffer is as it was
 abbrev pub AmplitudeWriteUndone : Type 0
 AmplitudeWriteUndone =
-    (p : Plan) (t : ℕ) (sign : ℤ) (tenths : ℕ) (buffer : List ℕ) (k : ℕ)
+    (p : Schedule) (t : ℕ) (sign : ℤ) (tenths : ℕ) (buffer : List ℕ) (k : ℕ)
     → FirstNo (writeQuestions p t sign tenths (length buffer)) k
     → symbolsWritten p t sign tenths buffer ≡ buffer
+
+-- the symbols are as without messages (document 02, 7): of two legal plans that differ in messages alone, writing gives the same answer and buffer
+abbrev pub SameSymbols : Type 0
+SameSymbols =
+    (p q : Schedule) (t : ℕ) (sign : ℤ) (tenths : ℕ) (buffer : List ℕ)
+    → legalSchedule p ≡ true → legalSchedule q ≡ true → p .plan ≡ q .plan
+    → (writeAmplitude p t sign tenths (length buffer) ≡ writeAmplitude q t sign tenths (length buffer))
+    × (symbolsWritten p t sign tenths buffer ≡ symbolsWritten q t sign tenths buffer)

@@ -34,10 +34,17 @@ pub fn given(digits: &[u8], n: usize) {
     read(&symbols, n);
 }
 
-// Writes a minute: one text has the plan and the minute, the other UT1. The refusal or 0 is printed, the number of symbols given back.
+// Writes a minute: one text has the plan and the minute, the other UT1 and the messages. The refusal or 0 is printed, the number of
+// symbols given back.
 fn write(plan: &[u8], ut1: &[u8], out: &mut [u8]) -> usize {
+    let messages = cases::messages(ut1, 4);
+    let n = cases::size(ut1, 4);
+    if messages.len() < n {
+        return 0;
+    }
     let answer = amplitude_writer::write_minute(
         cases::plan(plan),
+        &messages[0..n],
         cases::number(plan, 6),
         cases::signed(ut1, 1),
         cases::number(ut1, 2),
@@ -76,7 +83,7 @@ fn minute(plan: &[u8], ut1: &[u8]) {
 }
 
 // `plan .. minute M, UT1 SIGN TENTHS, in SPACE:` is taken in two halves, as each may have a minus. The first number of the second
-// half is the 1 of `UT1`.
+// half is the 1 of `UT1`; the messages of a plan come last, as in `plan .. in SPACE, 10 bytes of messages MINUTE DATA:`.
 pub fn written(text: &[u8]) {
     let comma = bytes::scan::find(text, 0, text.len(), b',');
     minute(&text[0..comma], &text[comma..]);

@@ -1,4 +1,4 @@
-// The amplitude code, written one minute a call by a plan.
+// The amplitude code, written one minute a call by a plan with messages.
 ghost use mathlib.Core.Path.{_≡_};
 ghost use mathlib.Core.Bool.{true};
 ghost use mathlib.Core.List.{_++_};
@@ -7,6 +7,7 @@ ghost use lib.ListN.{length, take, drop, replicate};
 ghost use Rattle.calendar.specs.Calendar.{minuteCount};
 ghost use Rattle.codewords.specs.CodeWords.{daylightNumber};
 ghost use Rattle.plan.specs.Plan.{minFrame, maxFrame, daylightAt};
+ghost use Rattle.messages.specs.Bytes.{scheduleOf};
 ghost use Rattle.symbols.specs.Symbols.{marker};
 ghost use Rattle.amplitude_rules.specs.Amplitude.{signBits, legalSign, legalUT1, legalValues, fieldsOf, symbols};
 ghost use Rattle.amplitude_rules.specs.Writing.{warningAt, valuesAt, writeAmplitude, symbolsWritten};
@@ -153,13 +154,23 @@ fn put(r: Values, out: &mut [u8])
     put_ends(r.seconds as usize, out);
 }
 
-// Writes one minute; a refused one leaves the buffer as it was.
-pub fn write_minute(plan: Plan, minute: u32, sign: i32, tenths: u32, out: &mut [u8]) -> WriteAnswer
+// Writes one minute; a refused one leaves the buffer as it was. Of the messages only question 1 is asked.
+pub fn write_minute(
+    plan: Plan,
+    messages: &[u8],
+    minute: u32,
+    sign: i32,
+    tenths: u32,
+    out: &mut [u8],
+) -> WriteAnswer
     ensures { λ r.
-        ⌜ (writeNumbers r ≡ writeAmplitude plan minute sign tenths (length (now (out .entry))))
-        × (now (out .exit) ≡ symbolsWritten plan minute sign tenths (now (out .entry))) ⌝ }
+        ⌜ (writeNumbers r ≡ writeAmplitude (scheduleOf plan (now (messages .entry))) minute sign tenths (length (now (out .entry))))
+        × (now (out .exit) ≡ symbolsWritten (scheduleOf plan (now (messages .entry))) minute sign tenths (now (out .entry))) ⌝ }
 {
     if !plan.is_legal() {
+        return WriteAnswer::Refused(WriteRefusal::IllegalPlan);
+    }
+    if !messages::is_legal(messages) {
         return WriteAnswer::Refused(WriteRefusal::IllegalPlan);
     }
     if Date::MINUTES <= minute {

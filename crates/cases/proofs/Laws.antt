@@ -1,6 +1,6 @@
 -- The steps of a loop that goes over a text, and one byte of it.
 -- Assumes nothing.
-use Prim.Native.Nat.{ℕ, _+_, _-_, _*_, _%_, _^_, _≤_, _<_}
+use Prim.Native.Nat.{ℕ, _+_, _-_, _*_, _/_, _%_, _^_, _≤_, _<_}
 use mathlib.Core.List.{List}
 use mathlib.Core.Path.{_≡_, _∙_}
 use mathlib.Core.Bool.{Bool, true, false, and-false}
@@ -17,7 +17,7 @@ use mir.Syntax.{w32}
 use mir.Val.{SFits, toZ, ofZ}
 use mir.Facts.{toZ-ofZ}
 use Rattle.bits.specs.Bits.{pick}
-use Rattle.cases.specs.Cases.{folded, isDigit, outside, inside, stepped, numberAt, signedAt, givenAt}
+use Rattle.cases.specs.Cases.{folded, isDigit, outside, inside, stepped, longAt, numberAt, signedAt, byteOf, messageByte, givenAt}
 use Rattle.bytes.specs.Bytes.{indexOf, slice}
 use Rattle.line.proofs.Parts.{search-rest}
 use Rattle.line.proofs.Signs.{pos-fits, neg-small}
@@ -43,7 +43,7 @@ module _ (k : ℕ) (s : Scan) (b : ℕ) where
   high-byte h = simp (lt-leb b 57 h, and-false)
 
   pub digit-byte : 48 ≤ b → b ≤ 57
-      → record { ended = s .ended; value = pick (eqb (s .ended) k) ((s .value * 10 + (b - 48)) % 4294967296) (s .value); within = 1 } ≡ stepped k s b
+      → record { ended = s .ended; value = pick (eqb (s .ended) k) (s .value % 1000000000000000000 * 10 + (b - 48)) (s .value); within = 1 } ≡ stepped k s b
   unfolding stepped isDigit inside
   digit-byte l h = simp (le-leb 48 b l, le-leb b 57 h)
 
@@ -61,17 +61,27 @@ module _ (digits : List ℕ) (i : ℕ) where
   unfolding givenAt
   given-digit h e = rw (lt-leb (length digits) i h, ne-eqb (getD digits i 0) 120 e)
 
--- the bytes before i are loaded
-abbrev pub LoadedTo : List ℕ → List ℕ → ℕ → Type 0
-LoadedTo digits bits i = (j : ℕ) → j < i → getD bits j 0 ≡ givenAt digits j
+-- byte i of messages: of a minute, or of data
+module _ (k : ℕ) (text : List ℕ) (i : ℕ) where
+  pub minute-byte : i % 10 < 4 → byteOf (longAt (k + i / 10 * 2 + 1) text) (3 - i % 10) ≡ messageByte k text i
+  unfolding messageByte
+  minute-byte h = rw (lt-ltb (i % 10) 4 h)
 
-pub load-more : (digits bits : List ℕ) (i v : ℕ) → i < length bits → v ≡ givenAt digits i → LoadedTo digits bits i → LoadedTo digits (set bits i v) (i + 1)
-load-more digits bits i v h e before j l =
+  pub payload-byte : 4 ≤ i % 10 → byteOf (longAt (k + i / 10 * 2 + 2) text) (9 - i % 10) ≡ messageByte k text i
+  unfolding messageByte
+  payload-byte h = rw (le-ltb (i % 10) 4 h)
+
+-- the bytes before i are loaded, byte j by f
+abbrev pub LoadedTo : (ℕ → ℕ) → List ℕ → ℕ → Type 0
+LoadedTo f bytes i = (j : ℕ) → j < i → getD bytes j 0 ≡ f j
+
+pub load-more : (f : ℕ → ℕ) (bytes : List ℕ) (i v : ℕ) → i < length bytes → v ≡ f i → LoadedTo f bytes i → LoadedTo f (set bytes i v) (i + 1)
+load-more f bytes i v h e before j l =
     elim (decLt j i) [
-      | yes g ↦ getD-set-other bits i j v 0 (λ same. omega arith) ∙ before j g
+      | yes g ↦ getD-set-other bytes i j v 0 (λ same. omega arith) ∙ before j g
       | no g ↦
           let same : j ≡ i = omega arith in
-          rw same (getD-set-same bits i v 0 h ∙ e)
+          rw same (getD-set-same bytes i v 0 h ∙ e)
     ]
 
 -- a number below 0 or not, by the place of the first minus

@@ -1,7 +1,7 @@
 -- What the text of a case holds, and the check sum of a text: what `trials` and `vectors` try the code with. No section of the papers: the form
 -- of stored cases is the test programs' own.
 -- Assumes nothing.
-use Prim.Native.Nat.{ℕ, _+_, _-_, _*_, _%_}
+use Prim.Native.Nat.{ℕ, _+_, _-_, _*_, _/_, _%_, _^_}
 use mathlib.Core.Bool.{Bool, _&&_}
 use mathlib.Core.List.{List, [], _∷_}
 use lib.Dec.{leb, ltb, eqb}
@@ -31,7 +31,7 @@ unfoldable pub inside : ℕ → Scan → ℕ → Scan
 inside k s digit =
     record {
       ended = s .ended;
-      value = pick (eqb (s .ended) k) ((s .value * 10 + digit) % 4294967296) (s .value);
+      value = pick (eqb (s .ended) k) (s .value % 1000000000000000000 * 10 + digit) (s .value);
       within = 1;
     }
 
@@ -42,9 +42,13 @@ stepped k s b = pick (isDigit b) (inside k s (b - 48)) (outside s)
 unfoldable pub nothingYet : Scan
 nothingYet = record { ended = 0; value = 0; within = 0 }
 
--- number k of a text, from 0 on
+-- number k of a text, from 0 on: its last 19 digits
+unfoldable pub longAt : ℕ → List ℕ → ℕ
+longAt k text = folded (stepped k) nothingYet text .value
+
+-- modulo 2 ^ 32
 unfoldable pub numberAt : ℕ → List ℕ → ℕ
-numberAt k text = folded (stepped k) nothingYet text .value
+numberAt k text = longAt k text % 4294967296
 
 -- number k, modulo 65,536, below 0 where the text has a minus
 unfoldable pub signedAt : ℕ → List ℕ → ℤ
@@ -67,6 +71,20 @@ planIn text =
 -- the count of minutes: 1 with the letter s, else number 7
 unfoldable pub countIn : ℕ → List ℕ → ℕ
 countIn letter text = let n = numberAt 7 text in pick (eqb letter 115) 1 n
+
+-- ---- messages
+
+-- the byte of a number that has so many bytes after it
+abbrev pub byteOf : ℕ → ℕ → ℕ
+byteOf n after = n / 2 ^ (8 * after) % 256
+
+-- byte i of messages: a minute in four bytes and data in six for each, big-endian, which are the numbers of the text after number k
+unfoldable pub messageByte : ℕ → List ℕ → ℕ → ℕ
+messageByte k text i =
+    let at = i % 10 in
+    let minute = longAt (k + i / 10 * 2 + 1) text in
+    let payload = longAt (k + i / 10 * 2 + 2) text in
+    pick (ltb at 4) (byteOf minute (3 - at)) (byteOf payload (9 - at))
 
 -- ---- given bits
 

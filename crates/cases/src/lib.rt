@@ -1,15 +1,15 @@
-// What the text of a case holds: its numbers, a plan and given bits; and the check sum of a text.
+// What the text of a case holds: its numbers, a plan, messages and given bits; and the check sum of a text.
 ghost use mathlib.Core.Path.{_≡_};
 ghost use Prim.Native.Nat.{ℕ, _+_, _*_, _%_, _<_};
 ghost use lib.ListN.{length, getD};
 ghost use Rattle.bits.specs.Bits.{pick};
-ghost use Rattle.cases.specs.Cases.{outside, stepped, numberAt, signedAt, planIn, countIn, givenAt, checkSum};
+ghost use Rattle.cases.specs.Cases.{outside, stepped, longAt, numberAt, signedAt, planIn, countIn, byteOf, messageByte, givenAt, checkSum};
 use plan::Plan;
 
 // What was found so far: how many numbers ended, the wanted one, and 1 where the last byte was a digit.
 pub struct Scan {
     pub ended: u32,
-    pub value: u32,
+    pub value: u64,
     pub within: u32,
 }
 
@@ -19,13 +19,12 @@ const NINE: u8 = b'9';
 
 const MINUS: u8 = b'-';
 
-// A number with a digit after it, modulo 2 ^ 32, where it is wanted.
-fn with_digit(n: u32, digit: u8, wanted: bool) -> u32
-    ensures { λ r. ⌜ r ≡ pick wanted ((n * 10 + digit) % 4294967296) n ⌝ }
+// A number with a digit after it, of 19 digits at most, where it is wanted.
+fn with_digit(n: u64, digit: u8, wanted: bool) -> u64
+    ensures { λ r. ⌜ r ≡ pick wanted (n % 1000000000000000000 * 10 + digit) n ⌝ }
 {
     if wanted {
-        let longer = n as u64 * 10 + digit as u64;
-        return (longer % 4_294_967_296) as u32;
+        return n % 1_000_000_000_000_000_000 * 10 + digit as u64;
     }
     n
 }
@@ -58,9 +57,9 @@ fn step(scan: Scan, byte: u8, k: u32) -> Scan
     }
 }
 
-// Number k of a text, from 0 on, modulo 2 ^ 32; 0 where it has fewer.
-pub fn number(text: &[u8], k: u32) -> u32
-    ensures { λ r. ⌜ r ≡ numberAt k (now (text .entry)) ⌝ }
+// Number k of a text, from 0 on, its last 19 digits; 0 where it has fewer numbers.
+fn long(text: &[u8], k: u32) -> u64
+    ensures { λ r. ⌜ r ≡ longAt k (now (text .entry)) ⌝ }
 {
     let mut scan = Scan {
         ended: 0,
@@ -73,6 +72,13 @@ pub fn number(text: &[u8], k: u32) -> u32
         i += 1;
     }
     scan.value
+}
+
+// Number k, modulo 2 ^ 32.
+pub fn number(text: &[u8], k: u32) -> u32
+    ensures { λ r. ⌜ r ≡ numberAt k (now (text .entry)) ⌝ }
+{
+    (long(text, k) % 4_294_967_296) as u32
 }
 
 pub fn size(text: &[u8], k: u32) -> usize
@@ -109,6 +115,43 @@ pub fn count(letter: u8, text: &[u8]) -> u32
     ensures { λ r. ⌜ r ≡ countIn letter (now (text .entry)) ⌝ }
 {
     if letter == b's' { 1 } else { number(text, 7) }
+}
+
+// The byte of a number that has so many bytes after it.
+fn byte_of(n: u64, after: u32) -> u8
+    requires { ⌜ after < 8 ⌝ }
+    ensures { λ r. ⌜ r ≡ byteOf n after ⌝ }
+{
+    ((n >> (8 * after)) % 256) as u8
+}
+
+// Byte i of messages: a minute in four bytes and data in six for each, big-endian, which are the numbers of the text after number k.
+fn message_byte(text: &[u8], k: u8, i: u32) -> u8
+    requires { ⌜ i < 50 ⌝ }
+    ensures { λ r. ⌜ r ≡ messageByte k (now (text .entry)) i ⌝ }
+{
+    let before = k as u32 + i / 10 * 2;
+    let at = i % 10;
+    if at < 4 {
+        byte_of(long(text, before + 1), 3 - at)
+    } else {
+        byte_of(long(text, before + 2), 9 - at)
+    }
+}
+
+// The bytes of five messages, the numbers after number k.
+pub fn messages(text: &[u8], k: u8) -> [u8; 50]
+    ensures { λ r.
+        ⌜ (length r ≡ 50)
+        × ((i : ℕ) → i < 50 → getD r i 0 ≡ messageByte k (now (text .entry)) i) ⌝ }
+{
+    let mut out = [0u8; 50];
+    let mut i: u32 = 0;
+    while i < 50 {
+        out[i as usize] = message_byte(text, k, i);
+        i += 1;
+    }
+    out
 }
 
 // Byte i of given bits: a digit, or `x` for 255; 0 after them.

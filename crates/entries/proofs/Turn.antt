@@ -7,11 +7,19 @@ use mathlib.Core.Path.{_≡_, refl, sym, ap, _∙_}
 use native.Mathlib.Omega.{arith}
 use lib.ListN.{length, take, drop, length-append, length-drop}
 use lib.Seq.{length-take-le, drop-drop}
+use Rattle.bits.specs.Bits.{pick}
+use Rattle.calendar.specs.Calendar.{lastOfMonth}
+use Rattle.codewords.specs.CodeWords.{leapNumber}
+use Rattle.codewords.specs.declared.State.{State}
 use Rattle.format.specs.Entry.{Entry, entrySize, entryBytes}
-use Rattle.format.specs.Questions.{after}
+use Rattle.format.specs.Message.{messageEntry}
+use Rattle.format.specs.Questions.{unknown, leapRead, after}
 use Rattle.format.specs.Next.{entry, readNext}
 use Rattle.format.specs.declared.Due.{Due}
 use Rattle.format.specs.declared.Due.the-variants.{Minute}
+use Rattle.frame.specs.Answer.{entryFrom}
+use Rattle.frame.specs.declared.Fields.{Fields}
+use Rattle.frame.specs.declared.Told.{Told}
 use Rattle.sequence.specs.Reading.{add, readFrames, Outcome}
 use Rattle.sequence.proofs.Resume.{resume, resume-add}
 use Rattle.sequence.proofs.Steps.{frame-read}
@@ -57,7 +65,13 @@ pub turn-due : (fewer used : ℕ) (due d last : Due) (bits : List ℕ) (e : Entr
 unfolding add
 turn-due fewer used due d last bits e ed some r h = rw (ed, ← drop-drop (e .seconds) used bits) (rw (frame-read fewer due (drop used bits) some e r) at h)
 
--- the state after a frame, as the code makes it
-pub after-is : (due : Due) (e : Entry) → Minute (e .minute + 1) ≡ after due e
+-- the state after a time frame and after a message, as the code makes it
+pub after-time : (due : Due) (s : State) (f : Fields) (l : ℕ) → l ≡ pick (lastOfMonth (f .minute)) unknown (leapNumber (s .leap))
+    → Minute (f .minute + 1) l ≡ after due (entryFrom s f)
 unfolding after
-after-is due e = refl
+after-time due s f l h = rw h
+
+pub after-message : (due : Due) (t : Told) (l : ℕ) → l ≡ pick (lastOfMonth (t .minute)) unknown (leapRead due)
+    → Minute (t .minute + 1) l ≡ after due (messageEntry (t .minute) (t .length) (t .notice) (t .payload))
+unfolding after messageEntry
+after-message due t l h = rw h

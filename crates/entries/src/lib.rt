@@ -3,17 +3,24 @@ ghost use mathlib.Core.Path.{_≡_};
 ghost use mathlib.Core.List.{_++_};
 ghost use Prim.Native.Nat.{_≤_};
 ghost use lib.ListN.{length, drop};
+ghost use Rattle.bits.specs.Bits.{pick};
+ghost use Rattle.calendar.specs.Calendar.{lastOfMonth};
+ghost use Rattle.codewords.specs.CodeWords.{leapNumber};
 ghost use Rattle.format.specs.Entry.{entrySize, entryBytes};
-ghost use Rattle.format.specs.Questions.{start};
+ghost use Rattle.format.specs.Message.{messageEntry};
+ghost use Rattle.format.specs.Questions.{start, unknown, leapRead};
 ghost use Rattle.format.specs.Next.{readOne, oneDue};
 ghost use Rattle.frame.specs.Answer.{entryFrom};
 ghost use Rattle.sequence.specs.Reading.{readFrom, dueFrom, readInto};
 ghost use Rattle.entries.specs.Answer.{endNumber, endOutcome, summaryOutcome};
+use calendar::Date;
 use codewords::State;
 use format::Due;
 use frame::Fields;
 use frame::FrameAnswer;
+use frame::LEAP_UNKNOWN;
 use frame::Refusal;
+use frame::Told;
 
 // How a reading ended.
 pub enum End {
@@ -48,9 +55,9 @@ impl End {
 }
 
 // The bytes of an entry.
-pub const ENTRY_SIZE: usize = 12;
+pub const ENTRY_SIZE: usize = 18;
 
-// Writes an entry to the front of out.
+// Writes the entry of a time frame to the front of out.
 fn put_entry(state: State, fields: Fields, out: &mut [u8])
     requires { ⌜ entrySize ≤ length (now out) ⌝ }
     ensures { λ r. ⌜ now (out .exit) ≡ entryBytes (entryFrom state fields) ++ drop entrySize (now (out .entry)) ⌝ }
@@ -73,11 +80,75 @@ fn put_entry(state: State, fields: Fields, out: &mut [u8])
         fields.place,
         fields.echo,
         0,
+        0,
+        0,
+        0,
+        0,
+        0,
+        0,
     ];
     bytes::copy(&entry, out);
 }
 
-// Reads one frame alone in a state into an entry of 12 bytes.
+// Writes the entry of a message to the front of out.
+fn put_message(told: Told, out: &mut [u8])
+    requires { ⌜ entrySize ≤ length (now out) ⌝ }
+    ensures { λ r. ⌜ now (out .exit) ≡ entryBytes (messageEntry (told .minute) (told .length) (told .notice) (told .payload)) ++ drop entrySize (now (out .entry)) ⌝ }
+{
+    let minute = told.minute;
+    let payload = told.payload;
+    let entry: [u8; ENTRY_SIZE] = [
+        (minute / 0x100_0000 % 256) as u8,
+        (minute / 0x1_0000 % 256) as u8,
+        (minute / 0x100 % 256) as u8,
+        (minute % 256) as u8,
+        told.length,
+        0,
+        0,
+        0,
+        told.notice,
+        0,
+        1,
+        1,
+        (payload / 0x100_0000_0000 % 256) as u8,
+        (payload / 0x1_0000_0000 % 256) as u8,
+        (payload / 0x100_0000 % 256) as u8,
+        (payload / 0x1_0000 % 256) as u8,
+        (payload / 0x100 % 256) as u8,
+        (payload % 256) as u8,
+    ];
+    bytes::copy(&entry, out);
+}
+
+// The leap state last read in the month of the minute that is due.
+fn leap_read(due: Due) -> u8
+    ensures { λ r. ⌜ r ≡ leapRead due ⌝ }
+{
+    match due {
+        Due::Any => LEAP_UNKNOWN,
+        Due::Minute(minute, leap) => leap,
+    }
+}
+
+// The leap state after a minute with a leap state: in a new month none was read.
+fn leap_after(minute: u32, leap: u8) -> u8
+    ensures { λ r. ⌜ r ≡ pick (lastOfMonth minute) unknown leap ⌝ }
+{
+    if Date::is_last_of_month(minute) {
+        return LEAP_UNKNOWN;
+    }
+    leap
+}
+
+// The leap state after a time frame.
+fn leap_after_time(minute: u32, state: State) -> u8
+    ensures { λ r. ⌜ r ≡ pick (lastOfMonth minute) unknown (leapNumber (state .leap)) ⌝ }
+{
+    let leap = state.leap;
+    leap_after(minute, codewords::leap_number(leap))
+}
+
+// Reads one frame alone in a state into an entry of 18 bytes.
 pub fn read_one(bits: &[u8], entry: &mut [u8], due: Due) -> One
     ensures { λ r.
         ⌜ (endOutcome (r .end) (now (entry .exit))
@@ -98,15 +169,24 @@ pub fn read_one(bits: &[u8], entry: &mut [u8], due: Due) -> One
         },
         FrameAnswer::Read(state, fields) => {
             put_entry(state, fields, entry);
+            let leap = leap_after_time(fields.minute, state);
             One {
                 end: End::Complete,
-                due: Due::Minute(fields.minute + 1),
+                due: Due::Minute(fields.minute + 1, leap),
+            }
+        }
+        FrameAnswer::Message(told) => {
+            put_message(told, entry);
+            let leap = leap_after(told.minute, leap_read(due));
+            One {
+                end: End::Complete,
+                due: Due::Minute(told.minute + 1, leap),
             }
         }
     }
 }
 
-// Reads frames into entries of 12 bytes each, from a state on.
+// Reads frames into entries of 18 bytes each, from a state on.
 pub fn read_from(bits: &[u8], entries: &mut [u8], due: Due) -> Summary
     ensures { λ r.
         ⌜ (summaryOutcome r (now (entries .exit))
@@ -140,7 +220,15 @@ pub fn read_from(bits: &[u8], entries: &mut [u8], due: Due) -> Summary
                 put_entry(state, fields, &mut entries[from..]);
                 used += fields.length as usize;
                 count += 1;
-                next = Due::Minute(fields.minute + 1);
+                let leap = leap_after_time(fields.minute, state);
+                next = Due::Minute(fields.minute + 1, leap);
+            }
+            FrameAnswer::Message(told) => {
+                put_message(told, &mut entries[from..]);
+                used += told.length as usize;
+                count += 1;
+                let leap = leap_after(told.minute, leap_read(next));
+                next = Due::Minute(told.minute + 1, leap);
             }
         }
     }
@@ -152,7 +240,7 @@ pub fn read_from(bits: &[u8], entries: &mut [u8], due: Due) -> Summary
     }
 }
 
-// Reads a recording into entries of 12 bytes each.
+// Reads a recording into entries of 18 bytes each.
 pub fn read_recording(bits: &[u8], entries: &mut [u8]) -> Summary
     ensures { λ r.
         ⌜ (summaryOutcome r (now (entries .exit)) ≡ readInto (now (entries .entry)) (now (bits .entry)))

@@ -23,7 +23,7 @@ use Rattle.format.specs.Frame.{minFrame, usualFrame, syncWord, Sent, syn
 use Rattle.format.specs.Entry.{Entry, sentEntry}
 use Rattle.format.specs.Received.{withEcho}
 use Rattle.format.specs.Reading.{secondsFor, entryOf}
-use Rattle.format.specs.Questions.{follows, entryNext, enough}
+use Rattle.format.specs.Questions.{follows, enough}
 use Rattle.format.specs.Next.{refused, entry, readNext}
 use Rattle.format.specs.TwoErrors.{withMinute}
 use Rattle.format.specs.declared.Due.{Due}
@@ -108,7 +108,7 @@ module _ (x y : ℕ) (s : Sent) where
   illegal-heard : Legal s → (due : Due) (one : Bool) → stateOf (number (bits 5 y)) ≡ illegal → readNext due one heard ≡ refused 9
   illegal-heard l due one h =
       yes-8 due one heard (omega (arith, length-heard)) (bits-heard (l .notice-ok)) sync-heard
-      ∙ no-9 due one heard (entryNext due heard) (rw state-heard h)
+      ∙ no-9 due one heard (entryOf heard) (rw state-heard h)
 
 -- the entry with minute m and place i that the frame then gives
 abbrev pub wordEntry : Sent → ℕ → ℕ → Entry
@@ -147,7 +147,7 @@ module _ (x : ℕ) (s : Sent) (l : Legal s) (m i : ℕ) (r : reading (bits 31 x)
       )
 
   heard-read : (due : Due) (one : Bool) → follows due m ≡ true → readNext due one (heard x y s) ≡ entry (wordEntry s m i)
-  unfolding entryNext withEcho sentEntry withMinute
+  unfolding withEcho sentEntry withMinute
   heard-read due one turn =
       let k : stateOf (number (stateIn (heard x y s))) < illegal = rw state-is (omega (arith, l .leap-ok, l .daylight-ok)) in
       let fits : enough one (s .seconds) (length (heard x y s)) ≡ true = enough-all one _ _ (omega (arith, length-heard x y s, long s l)) in

@@ -3,12 +3,11 @@
 use Prim.Native.Nat.{ℕ, _≤_, _<_}
 use mathlib.Core.Bool.{Bool, true}
 use mathlib.Core.List.{List, _++_}
-use mathlib.Core.Path.{_≡_, refl, subst, sym}
+use mathlib.Core.Path.{_≡_, refl, subst, sym, _∙_}
 use native.Mathlib.Omega.{arith}
 use lib.ListN.{length, take, drop, getD}
 use borrow.Author.Tests.{leb-true}
 use Rattle.questions.specs.Questions.{AllYes}
-use Rattle.questions.proofs.Laws.{answer, yes-at}
 use Rattle.bits.specs.Bits.{Binary, isBit, all}
 use Rattle.bits.proofs.Parts.{binary-append, binary-take, binary-drop}
 use Rattle.bits.proofs.Tests.{binary}
@@ -19,13 +18,13 @@ use Rattle.format.specs.Frame.{minFrame, wordIn}
 use Rattle.format.specs.Inverting.{from, timeNumbers, timeBits}
 use Rattle.format.specs.Entry.{Entry}
 use Rattle.format.specs.Reading.{entryOf}
-use Rattle.format.specs.Questions.{entryNext, timeQuestions, nextQuestions}
+use Rattle.format.specs.Questions.{nextQuestions}
 use Rattle.format.specs.Next.{entry, readNext}
 use Rattle.format.specs.FalseMinute.{ReadNear, FrameReadNear}
 use Rattle.format.specs.declared.Due.{Due}
 use Rattle.format.proofs.Questions.{word-front}
 use Rattle.format.proofs.Refusals.{frame-accepted}
-use Rattle.format.proofs.Accepted.{entry-only}
+use Rattle.format.proofs.Accepted.{entry-only, entry-time, kind-time}
 use Rattle.format.proofs.Unread.{tabulate, split}
 
 -- the time word that is read is made of the 31 time-word bits, by their numbers
@@ -60,15 +59,15 @@ word-received f l b = (word-length f l, rw (word-front f) at (word-binary (take 
 -- by questions 6 and 7
 module _ (due : Due) (alone : Bool) (f : List ℕ) (a : AllYes (nextQuestions due alone f)) where
   q6 : minFrame ≤ length f
-  unfolding nextQuestions timeQuestions answer
-  q6 = leb-true minFrame (length f) (yes-at (nextQuestions due alone f) a 6)
+  unfolding nextQuestions
+  q6 = leb-true minFrame (length f) (a .0)
 
   q7 : all isBit (take minFrame f) ≡ true
-  unfolding nextQuestions timeQuestions answer
-  q7 = yes-at (nextQuestions due alone f) a 7
+  unfolding nextQuestions
+  q7 = a .1 .0
 
-  read-near : (m : ℕ) → m < minuteCount → ReadNear f (entryNext due f) m
-  unfolding entryNext entryOf
+  read-near : (m : ℕ) → m < minuteCount → ReadNear f (entryOf f) m
+  unfolding entryOf
   read-near m h =
       let w = word-received f q6 q7 in
       let e = time-bits-read f q6 in
@@ -79,7 +78,8 @@ module _ (due : Due) (alone : Bool) (f : List ℕ) (a : AllYes (nextQuestions du
       }
 
 pub frame-read-near : FrameReadNear
-frame-read-near due alone f e m h l =
+frame-read-near due alone f e m h t l =
     let s = entry-only due alone f e h in
     let a = frame-accepted due alone f .0 (subst (λ (d : Entry). readNext due alone f ≡ entry d) s h) in
-    subst (λ (d : Entry). ReadNear f d m) (sym s) (read-near due alone f a m (omega arith))
+    let k = entry-time due f (kind-time due f (subst (λ (d : Entry). d .message ≡ 0) s t)) in
+    subst (λ (d : Entry). ReadNear f d m) (sym (s ∙ k)) (read-near due alone f a m (omega arith))

@@ -2,10 +2,13 @@ pub mod Words
 pub mod Legal
 pub mod Entry
 pub mod Questions
+pub mod Messages
 pub mod Sending
 pub mod Accepted
 pub mod Inverting
 pub mod RoundTrip
+pub mod MessageTrip
+pub mod Contents
 pub mod Unread
 pub mod Echo
 pub mod One
@@ -15,4 +18,5 @@ pub mod FalseMinute
 pub mod AnyWord
 pub mod TwoErrors
 pub mod Facts
+pub mod MessageFacts
 pub mod Stated

@@ -25,11 +25,12 @@ use Rattle.format.specs.Entry.{sentEntry}
 use Rattle.format.specs.Inverting.{timeNumbers, framePlaces, from, flip, invertAt, inverted, withUnread}
 use Rattle.format.specs.Received.{Reception, received, withEcho, receivedEntry}
 use Rattle.format.specs.Reading.{entryOf}
-use Rattle.format.specs.Questions.{start, follows, entryNext, enough}
+use Rattle.format.specs.Message.{messageSyncWord, isMessage}
+use Rattle.format.specs.Questions.{start, follows, enough}
 use Rattle.format.specs.Next.{refused, entry, readNext, readOne}
 use Rattle.format.specs.OneBit.{withNotice, oneBitAnswer, AnyBitInverted}
 use Rattle.format.proofs.Legal.{Legal, legal-sent}
-use Rattle.format.proofs.Accepted.{entry-only}
+use Rattle.format.proofs.Accepted.{entry-only, entry-time}
 use Rattle.format.proofs.Inverting.{inverts-one-bit}
 use Rattle.format.proofs.RoundTrip.{state-read, single-next, single-round-trip}
 use Rattle.format.proofs.Sending.{bodyOf-length, bodyOf-binary}
@@ -43,6 +44,10 @@ module _ (s : Sent) where
   front-sent : take 13 (frame s) ≡ sync
   unfolding frame bodyOf body sync bits
   front-sent = refl
+
+  frame-kind : isMessage (frame s) ≡ false
+  unfolding frame bodyOf body sync bits bit isMessage number
+  frame-kind = refl
 
   state-sent : stateIn (frame s) ≡ bits 5 (getD stateWords (4 * s .leap + s .daylight) 0)
   unfolding frame bodyOf body sync codeWord parities bits stateIn
@@ -70,17 +75,29 @@ frame-binary s l = binary-append (bodyOf s) (replicate (s .seconds - minFrame) 0
 
 -- ---- one inverted bit of a list, in each field
 
--- the sync word with a bit inverted is another: a test of 13 bits
+-- the sync word with a bit inverted is another, and not a message's: a test of 13 bits
 otherSync : ℕ → Bool
-otherSync k = not (eqb (number (invertBit k sync)) syncWord)
+otherSync k = not (eqb (number (invertBit k sync)) syncWord) && not (eqb (number (invertBit k sync)) messageSyncWord)
 
 sync-pass : T (upto otherSync 13)
 unfolding otherSync invertBit sync number bits bit
 sync-pass = tt
 
-sync-inverted : (k : ℕ) → k < 13 → number (invertBit k sync) ≢ syncWord
-unfolding otherSync
-sync-inverted k h e = T-not (eqb (number (invertBit k sync)) syncWord) (upto-at otherSync 13 sync-pass k h) (rw e tt)
+module _ (k : ℕ) (h : k < 13) where
+  abbrev not-time : Bool
+  not-time = not (eqb (number (invertBit k sync)) syncWord)
+
+  abbrev not-message : Bool
+  not-message = not (eqb (number (invertBit k sync)) messageSyncWord)
+
+  sync-inverted : number (invertBit k sync) ≢ syncWord
+  unfolding otherSync
+  sync-inverted e = T-not (eqb (number (invertBit k sync)) syncWord) (and-left not-time not-message (upto-at otherSync 13 sync-pass k h)) (rw e tt)
+
+  sync-no-message : number (invertBit k sync) ≢ messageSyncWord
+  unfolding otherSync
+  sync-no-message e =
+      T-not (eqb (number (invertBit k sync)) messageSyncWord) (and-right not-time not-message (upto-at otherSync 13 sync-pass k h)) (rw e tt)
 
 module _ (f : List ℕ) (k : ℕ) (h : minFrame ≤ length f) where
   state-inside : 47 ≤ k → k < 53 → k ≢ 49 → (i : ℕ) × (i < 5) × (stateIn (invertBit k f) ≡ invertBit i (stateIn f))
@@ -116,6 +133,9 @@ not-zeros (suc n) (suc k) h = not-zeros n k (omega arith)
 
 sent-entry : (s : Sent) → Legal s → readNext start true (frame s) ≡ entry (sentEntry s 0)
 sent-entry s l = rw (inverts-one-bit .nothing (frame s)) at (single-round-trip s l 0 (omega arith))
+
+sent-is : (s : Sent) → Legal s → entryOf (frame s) ≡ sentEntry s 0
+sent-is s l = sym (entry-time start (frame s) (frame-kind s)) ∙ sym (entry-only start true (frame s) (sentEntry s 0) (sent-entry s l))
 
 -- with no place inverted, and a, b and c received at 19, 29 and 39
 abbrev free : ℕ → ℕ → ℕ → Reception
@@ -224,14 +244,14 @@ module _ (s : Sent) (l : Legal s) (k : ℕ) where
 
   in-sync : k < 13 → readNext start true g ≡ refused 8
   in-sync h =
-      no-8 start true g q6 q7
-      (λ e. sync-inverted k h (rw (part-within 0 13 k (frame s) k (omega arith) h, front-sent s) at e))
+      let p : take 13 g ≡ invertBit k sync = part-within 0 13 k (frame s) k (omega arith) h ∙ ap (invertBit k) (front-sent s) in
+      no-8 start true g q6 q7 (λ e. sync-inverted k h (rw p at e)) (λ e. sync-no-message k h (rw p at e))
 
   in-state : 47 ≤ k → k < 53 → k ≢ 49 → readNext start true g ≡ refused 9
   in-state lo hi ne =
       let i = state-inside (frame s) k (omega (arith, length-sent s)) lo hi ne in
       yes-8 start true g q6 q7 (q8 (omega arith))
-      ∙ no-9 start true g (entryNext start g)
+      ∙ no-9 start true g (entryOf g)
       (rw (i .2, state-sent s) (state-inverted (4 * s .leap + s .daylight) (i .0) (omega (arith, l .leap-ok, l .daylight-ok)) (i .1)))
 
   -- after the state word the state is as sent
@@ -242,19 +262,19 @@ module _ (s : Sent) (l : Legal s) (k : ℕ) where
   q9 lo = rw (state-kept lo) (omega (arith, l .leap-ok, l .daylight-ok))
 
   in-next : 53 ≤ k → k < minFrame → readNext start true g ≡ refused 10
-  unfolding entryNext entryOf
+  unfolding entryOf
   in-next lo hi =
       let d : (4 * s .leap + s .daylight) % 4 ≡ s .daylight = omega (arith, l .daylight-ok) in
       let r : rowOf (s .daylight) (number (nextIn g)) ≡ unassigned =
       rw (next-inside (frame s) k (omega (arith, length-sent s)) lo hi, next-sent s)
       (row-inverted (s .daylight) (s .row) (k - 53) (l .row-ok) (omega arith)) in
-      yes-8 start true g q6 q7 (q8 (omega arith)) ∙ no-10 start true g (entryNext start g) (q9 lo) (rw (state-kept lo, d, r) (omega arith))
+      yes-8 start true g q6 q7 (q8 (omega arith)) ∙ no-10 start true g (entryOf g) (q9 lo) (rw (state-kept lo, d, r) (omega arith))
 
   in-rest : minFrame ≤ k → k < length (frame s) → readNext start true g ≡ refused 13
-  unfolding entryNext sentEntry
+  unfolding sentEntry
   in-rest lo hi =
       let n = s .seconds - minFrame in
-      let e : entryOf g ≡ sentEntry s 0 = sym (entry-front g) ∙ ap entryOf (part-behind 0 minFrame k (frame s) (omega arith)) ∙ entry-front (frame s) ∙ sym (entry-only start true (frame s) (sentEntry s 0) (sent-entry s l)) in
+      let e : entryOf g ≡ sentEntry s 0 = sym (entry-front g) ∙ ap entryOf (part-behind 0 minFrame k (frame s) (omega arith)) ∙ entry-front (frame s) ∙ sent-is s l in
       let z : all isZero (take n (drop minFrame g)) ≡ false =
       rw (part-within minFrame n k (frame s) (k - minFrame) (omega arith) (omega (arith, length-sent s)), behind-sent s, take-all {A = ℕ} n (replicate n 0) (omega (arith, length-replicate {A = ℕ} n 0))) (not-zeros n (k - minFrame) (omega (arith, length-sent s))) in
       yes-8 start true g q6 q7 (q8 (omega arith))

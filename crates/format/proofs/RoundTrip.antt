@@ -19,7 +19,7 @@ use Rattle.codewords.proofs.Tables.{state-back, state-word-lt, row-small, next-
 use Rattle.format.specs.Frame.{minFrame, syncWord, Sent, sync, body, bodyOf, frame, wordIn, stateIn, nextIn}
 use Rattle.format.specs.Inverting.{flip, invertAt, from, timeNumbers, timeBits, framePlaces, inverted, withUnread}
 use Rattle.format.specs.Reading.{entryOf}
-use Rattle.format.specs.Questions.{start, follows, entryNext, enough}
+use Rattle.format.specs.Questions.{start, follows, enough}
 use Rattle.format.specs.Next.{entry, readNext}
 use Rattle.format.specs.declared.Due.{Due}
 use Rattle.format.specs.Entry.{sentEntry}
@@ -153,7 +153,7 @@ module _ (s : Sent) (r : Reception) (rest : List ℕ) where
 
     trip : (due : Due) (one : Bool) → follows due (s .minute) ≡ true → Bits r → enough one (s .seconds) (length heard) ≡ true
         → readNext due one heard ≡ entry (receivedEntry s r)
-    unfolding entryNext receivedEntry withEcho sentEntry
+    unfolding receivedEntry withEcho sentEntry
     trip due one turn b fits =
         let k : stateOf (number (stateIn heard)) < illegal = rw state-is (omega (arith, l .leap-ok, l .daylight-ok)) in
         yes-8 due one heard (omega (arith, length-heard)) (bits-heard b (l .notice-ok)) sync-heard

@@ -1,20 +1,19 @@
 -- Two inverted bits of minute 0's frame that are read as another minute.
 -- Assumes nothing.
-use Prim.Native.Nat.{ℕ, _+_, _-_, _*_}
+use Prim.Native.Nat.{ℕ}
 use mathlib.Core.Bool.{Bool, true, false}
 use mathlib.Core.List.{List}
 use mathlib.Core.Path.{_≡_, refl}
 use native.Mathlib.Omega.{arith}
 use Rattle.bits.specs.Bits.{bit, bits, isBit, all}
 use Rattle.bits.proofs.Tests.{binary}
-use Rattle.calendar.specs.Calendar.{monthIndex, lastOfMonth, firstDay, lastMinute}
-use Rattle.calendar.proofs.LastMinute.{last-is}
+use Rattle.calendar.specs.Calendar.{lastOfMonth}
 use Rattle.timeword.specs.TimeWord.{Received, par0, par1, par2, par3, par4, sumOf, parity, parities, codeWord, invert}
 use Rattle.timeword.specs.Theorems.{timePlace}
 use Rattle.timeword.proofs.Computed.{two-places-mistaken}
 use Rattle.plan.specs.Plan.{legalPlan}
 use Rattle.plan.specs.declared.Plan.{Plan}
-use Rattle.plan.proofs.Days.{sixty-in-day}
+use Rattle.plan.proofs.Days.{not-last, sixty-in-day}
 use Rattle.format.specs.Frame.{usualFrame, Sent, sentBy, sync, body, bodyOf, frame}
 use Rattle.format.specs.Inverting.{from, framePlaces, flip, invertAt, inverted}
 use Rattle.format.specs.Entry.{sentEntry}
@@ -41,15 +40,6 @@ frames-0 : (p : Plan)
 unfolding sentBy frame bodyOf body sync withWords inverted invertAt flip framePlaces from invert codeWord parities bits
 frames-0 p = (refl, refl)
 
--- a minute that does not end a day is not the last of its month
-not-last : (t : ℕ) → ((day : ℕ) → t ≡ day * 1440 - 1 → ⊥) → lastOfMonth t ≡ false
-unfolding lastMinute
-not-last t n = go (lastOfMonth t) refl
-  where
-    go : (b : Bool) → lastOfMonth t ≡ b → b ≡ false
-    go true e = absurd (n (firstDay (monthIndex t + 1)) (last-is t .0 e .1))
-    go false e = refl
-
 module _ (p : Plan) (legal : legalPlan p ≡ true) where
   abbrev s : Sent
   s = sentBy p 0
@@ -75,10 +65,10 @@ module _ (p : Plan) (legal : legalPlan p ≡ true) where
   mistaken alone = (
     rw (frames-0 p .0, ← entries-0 .0)
         (any-word-read (word0 1 2) (received-0 .0) s is-legal 32774 16 (two-places-mistaken .1) (omega arith)
-        (called 32774 (not-last 32774 (λ day e. omega arith))) start alone refl),
+        (called 32774 (not-last 32774 (λ e. omega arith))) start alone refl),
     rw (frames-0 p .1, ← entries-0 .1)
         (any-word-read (word0 0 1) (received-0 .1) s is-legal 16387 17 (two-places-mistaken .0) (omega arith)
-        (called 16387 (not-last 16387 (λ day e. omega arith))) start alone refl),
+        (called 16387 (not-last 16387 (λ e. omega arith))) start alone refl),
   )
 
 pub two-errors-mistaken : TwoErrorsMistaken

@@ -1,6 +1,6 @@
 -- Bits 29 and 39 of a frame are not read, and nothing after the frame is.
 -- Assumes nothing.
-use Prim.Native.Nat.{ℕ, zero, suc, _+_, _-_, _≤_}
+use Prim.Native.Nat.{ℕ, zero, suc, _+_, _-_, _≤_, _<_}
 use mathlib.Core.Bool.{Bool, true, false}
 use mathlib.Core.List.{List, [], _∷_, _++_}
 use mathlib.Core.Path.{_≡_, refl, sym, ap, subst, _∙_}
@@ -15,13 +15,15 @@ use Rattle.bits.proofs.Parts.{part-take}
 use Rattle.format.specs.Frame.{minFrame, wordIn, stateIn, nextIn}
 use Rattle.format.specs.Inverting.{withUnread}
 use Rattle.format.specs.Entry.{Entry}
+use Rattle.format.specs.Message.{isMessage, dataIn}
 use Rattle.format.specs.Reading.{entryOf}
-use Rattle.format.specs.Questions.{enough, entryNext, timeQuestions, nextQuestions}
+use Rattle.format.specs.Questions.{messageIn, enough, entryNext, timeQuestions, messageQuestions, nextQuestions}
 use Rattle.format.specs.Next.{entry, readNext, readOne}
 use Rattle.format.specs.declared.Due.{Due}
 use Rattle.format.proofs.Questions.{word-front, state-front, next-front, no-6}
 use Rattle.format.proofs.One.{one-same}
-use Rattle.format.proofs.Accepted.{accepted, entry-only, seconds-59, next-59}
+use Rattle.format.proofs.Messages.{data-front}
+use Rattle.format.proofs.Accepted.{accepted, entry-only, next-59}
 
 -- the list of g 0 to g (n - 1)
 unfoldable pub tabulate : ℕ → (ℕ → ℕ) → List ℕ
@@ -42,7 +44,7 @@ length-unread x y f = simp length-set
 module _ (x y : ℕ) (hx : isBit x ≡ true) (hy : isBit y ≡ true) where
   spread : (due : Due) (alone : Bool) (g : ℕ → ℕ) (r : List ℕ) → isBit (g 29) ≡ true → isBit (g 39) ≡ true
       → readNext due alone (withUnread x y (tabulate minFrame g ++ r)) ≡ readNext due alone (tabulate minFrame g ++ r)
-  unfolding withUnread readNext nextQuestions timeQuestions entryNext entryOf wordIn stateIn nextIn tabulate all
+  unfolding withUnread readNext nextQuestions timeQuestions messageQuestions entryNext isMessage messageIn dataIn entryOf wordIn stateIn nextIn tabulate all
   spread due alone g r h29 h39 = rw (hx, hy, h29, h39)
 
   -- the next frame in any state
@@ -70,40 +72,71 @@ pub entry-front : (f : List ℕ) → entryOf (take minFrame f) ≡ entryOf f
 unfolding entryOf
 entry-front f = rw (word-front f, state-front f, next-front f, getD-take minFrame f 49 0 (omega arith), getD-take minFrame f 19 0 (omega arith))
 
--- a frame's answer comes from the bits that it calls for, and from whether there are enough of them
-module _ (f g : List ℕ) (same : take (entryOf f .seconds) f ≡ take (entryOf f .seconds) g) where
-  abbrev s : ℕ
-  s = entryOf f .seconds
+-- ---- a frame's answer comes from the bits that it calls for, and from whether there are enough of them
 
+-- two lists with the same first s bits, 59 or more
+module _ (f g : List ℕ) (s : ℕ) (long : minFrame ≤ s) (same : take s f ≡ take s g) where
   front : take minFrame f ≡ take minFrame g
-  front = sym (take-take minFrame s f (seconds-59 f)) ∙ ap (take minFrame) same ∙ take-take minFrame s g (seconds-59 f)
+  front = sym (take-take minFrame s f long) ∙ ap (take minFrame) same ∙ take-take minFrame s g long
 
-  pub same-entry : entryOf g ≡ entryOf f
-  same-entry = sym (entry-front g) ∙ ap entryOf (sym front) ∙ entry-front f
+  sync-same : take 13 g ≡ take 13 f
+  sync-same = sym (take-take 13 minFrame g (omega arith)) ∙ ap (take 13) (sym front) ∙ take-take 13 minFrame f (omega arith)
+
+  kind-same : isMessage g ≡ isMessage f
+  unfolding isMessage
+  kind-same = rw sync-same
+
+  bit-same : (k : ℕ) → k < minFrame → getD g k 0 ≡ getD f k 0
+  bit-same k l = sym (getD-take minFrame g k 0 l) ∙ ap (λ (l : List ℕ). getD l k 0) (sym front) ∙ getD-take minFrame f k 0 l
+
+  state-same : stateIn g ≡ stateIn f
+  state-same = sym (state-front g) ∙ ap stateIn (sym front) ∙ state-front f
 
   behind : take (s - minFrame) (drop minFrame f) ≡ take (s - minFrame) (drop minFrame g)
   behind =
-      let h : minFrame + (s - minFrame) ≤ s = omega (arith, seconds-59 f) in
+      let h : minFrame + (s - minFrame) ≤ s = omega arith in
       sym (part-take s minFrame (s - minFrame) f h) ∙ ap (λ (l : List ℕ). take (s - minFrame) (drop minFrame l)) same ∙ part-take s minFrame (s - minFrame) g h
 
-  pub same-answer : (due : Due) (alone : Bool) → leb minFrame (length f) ≡ leb minFrame (length g) → enough alone s (length f) ≡ enough alone s (length g)
-      → readNext due alone g ≡ readNext due alone f
-  unfolding readNext nextQuestions timeQuestions entryNext
-  same-answer due alone q6 q13 =
-      let k : stateIn g ≡ stateIn f = sym (state-front g) ∙ ap stateIn (sym front) ∙ state-front f in
-      let t : take 13 g ≡ take 13 f = sym (take-take 13 minFrame g (omega arith)) ∙ ap (take 13) (sym front) ∙ take-take 13 minFrame f (omega arith) in
-      rw (same-entry, k, t, ← front, ← q6, ← q13, ← behind)
+  entry-same : entryOf g ≡ entryOf f
+  entry-same = sym (entry-front g) ∙ ap entryOf (sym front) ∙ entry-front f
 
--- the same of the next frame in any state
+  message-same : (due : Due) → messageIn due g ≡ messageIn due f
+  unfolding messageIn
+  message-same due =
+      let d : dataIn g ≡ dataIn f = sym (data-front g) ∙ ap dataIn (sym front) ∙ data-front f in
+      rw (d, bit-same 49 (omega arith))
+
+  next-same : (due : Due) → entryNext due g ≡ entryNext due f
+  unfolding entryNext
+  next-same due = rw (kind-same, message-same due, entry-same)
+
+-- the next frame in any state
 pub next-entry-unread : (x y : ℕ) → isBit x ≡ true → isBit y ≡ true → (due : Due) (f : List ℕ) → minFrame ≤ length f → entryNext due (withUnread x y f) ≡ entryNext due f
-unfolding entryNext
-next-entry-unread x y hx hy due f l = entry-unread x y hx hy f l
+next-entry-unread x y hx hy due f l = rw (split minFrame f l) at (go (λ k. getD f k 0) (drop minFrame f))
+  where
+    go : (g : ℕ → ℕ) (r : List ℕ) → entryNext due (withUnread x y (tabulate minFrame g ++ r)) ≡ entryNext due (tabulate minFrame g ++ r)
+    go g r = unfold withUnread entryNext isMessage messageIn dataIn entryOf wordIn stateIn nextIn tabulate in refl
 
 module _ (due : Due) (f g : List ℕ) (same : take (entryNext due f .seconds) f ≡ take (entryNext due f .seconds) g) where
-  pub next-same-answer : (alone : Bool) → leb minFrame (length f) ≡ leb minFrame (length g) → enough alone (entryNext due f .seconds) (length f) ≡ enough alone (entryNext due f .seconds) (length g)
+  abbrev s : ℕ
+  s = entryNext due f .seconds
+
+  pub next-same-answer : (alone : Bool) → leb minFrame (length f) ≡ leb minFrame (length g) → enough alone s (length f) ≡ enough alone s (length g)
       → readNext due alone g ≡ readNext due alone f
-  unfolding entryNext
-  next-same-answer alone q6 q13 = same-answer f g same due alone q6 q13
+  unfolding readNext nextQuestions timeQuestions messageQuestions
+  next-same-answer alone q6 q13 =
+      let long = next-59 due f in
+      rw (
+        next-same f g s long same due,
+        kind-same f g s long same,
+        state-same f g s long same,
+        sync-same f g s long same,
+        bit-same f g s long same 19 (omega arith),
+        ← front f g s long same,
+        ← q6,
+        ← q13,
+        ← behind f g s long same,
+      )
 
 -- an accepted frame is accepted with fewer bits after it
 pub cut-answer : (due : Due) (f : List ℕ) (e : Entry) (m : ℕ) → readNext due false f ≡ entry e → e .seconds ≤ m → readNext due false (take m f) ≡ entry e

@@ -26,7 +26,8 @@ pub record ReadNear (f : List ℕ) (e : Entry) (m : ℕ) : Type 0 where
   -- exactly two differ: the place is not 0
   pub two-never-place-0 : distanceFrom m f ≡ 2 → e .place ≢ 0
 
--- theorem: any bits that are read as a frame, alone or of a recording, in any state, and any minute of the range
+-- theorem: any bits that are read as a time frame, alone or of a recording, in any state, and any minute of the range. A message has no
+-- time word: its minute is the counted one
 abbrev pub FrameReadNear : Type 0
 FrameReadNear =
-    (due : Due) (alone : Bool) (f : List ℕ) (e : Entry) (m : ℕ) → readNext due alone f ≡ entry e → m < minuteCount → ReadNear f e m
+    (due : Due) (alone : Bool) (f : List ℕ) (e : Entry) (m : ℕ) → readNext due alone f ≡ entry e → e .message ≡ 0 → m < minuteCount → ReadNear f e m

@@ -1,6 +1,8 @@
 pub mod Frame
 pub mod Entry
 pub mod Inverting
+pub mod Message
+pub mod MessageBits
 pub mod Received
 pub mod Reading
 pub mod Questions

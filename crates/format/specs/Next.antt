@@ -1,5 +1,5 @@
 -- Reading the next frame in the reader's state: one frame alone, a frame of a recording, a frame after others
--- (document 01, "Recordings and entries" and "Questions in order").
+-- (document 01, "Recordings and entries" and "Questions in order"; document 02, 7).
 -- Assumes nothing.
 use Prim.Native.Nat.{ℕ}
 use mathlib.Core.Bool.{Bool, true}
@@ -35,7 +35,7 @@ pub record OneOutcome : Type 0 where
   pub refusal : ℕ
   pub buffer : List ℕ
 
--- a refused frame writes no entry ("Questions in order"); an entry takes the buffer's first 12 bytes
+-- a refused frame writes no entry ("Questions in order"); an entry takes the buffer's first 18 bytes
 unfoldable pub oneOutcome : List ℕ → Answer → OneOutcome
 oneOutcome buffer (refused n) = record { refusal = n; buffer = buffer }
 oneOutcome buffer (entry e) = record { refusal = 0; buffer = entryBytes e ++ drop entrySize buffer }

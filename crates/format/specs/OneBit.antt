@@ -1,4 +1,4 @@
--- One inverted bit anywhere in a frame (document 02, 3), read alone.
+-- One inverted bit anywhere in a time frame (document 02, 3), read alone.
 -- Assumes nothing.
 use Prim.Native.Nat.{ℕ, _-_, _≤_, _<_}
 use mathlib.Core.Bool.{true}
@@ -29,6 +29,8 @@ withNotice b e =
       notice = b;
       place = e .place;
       echo = e .echo;
+      message = e .message;
+      payload = e .payload;
     }
 
 -- what reading gives where bit k is inverted: "in the sync word the answer is 8" (bits 0 to 12); "in the 31 bits or at 19, 29 or 39 all
@@ -45,7 +47,7 @@ oneBitAnswer s k =
     (pick (ltb k minFrame) (refused 10)
     (refused 13))))))
 
--- theorem: every frame that a legal plan gives a minute of the range, of 59, 60 and 61 bits alike, with any one of its bits inverted, read
+-- theorem: every time frame that a legal plan gives a minute of the range, of 59, 60 and 61 bits alike, with any one of its bits inverted, read
 -- alone with entry space enough
 abbrev pub AnyBitInverted : Type 0
 AnyBitInverted =

@@ -1,4 +1,4 @@
--- A frame's entry, all questions aside (document 01, "Frame" and "Recordings and entries").
+-- A time frame's entry, all questions aside (document 01, "Frame" and "Recordings and entries").
 -- Assumes nothing.
 use Prim.Native.Nat.{ℕ, zero, suc, _/_, _%_}
 use mathlib.Core.Bool.{Bool, true, false}
@@ -20,7 +20,7 @@ secondsFor (suc l) false = usualFrame
 secondsFor (suc zero) true = minFrame
 secondsFor (suc (suc l)) true = maxFrame
 
--- the entry that a frame's bits give ("Recordings and entries"); stateOf and rowOf have a number of their own for a word that is illegal or
+-- the entry that a time frame's bits give ("Recordings and entries"); stateOf and rowOf have a number of their own for a word that is illegal or
 -- unassigned
 unfoldable pub entryOf : List ℕ → Entry
 entryOf f =
@@ -35,4 +35,6 @@ entryOf f =
       notice = getD f 49 0;
       place = t .place;
       echo = pick (eqb (getD f 19 0) (t .minute % 2)) 1 0;
+      message = 0;
+      payload = 0;
     }

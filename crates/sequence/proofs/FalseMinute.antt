@@ -1,29 +1,27 @@
 -- What a false minute takes, of a recording as read: each entry is that of its rank's bits, and its minute is one more than the one before.
 -- Assumes nothing.
 use Prim.Native.Nat.{ℕ, zero, suc, _+_, _*_, _/_, _<_}
-use mathlib.Core.Bool.{true, false}
+use mathlib.Core.Bool.{false}
 use mathlib.Core.List.{List, [], _∷_, _++_}
 use mathlib.Core.Logic.{inl, inr}
-use mathlib.Core.Path.{_≡_, refl, sym, subst, _∙_}
+use mathlib.Core.Path.{_≡_, refl, subst}
 use native.Mathlib.Decide.{decLe}
 use native.Mathlib.Omega.{arith}
 use lib.ListN.{length, take, drop}
 use lib.Seq.{drop-drop}
-use borrow.Author.Tests.{eqb-true}
-use Rattle.questions.proofs.Laws.{answer, yes-at}
 use Rattle.bits.specs.Bits.{concat}
 use Rattle.calendar.specs.Calendar.{minuteCount}
 use Rattle.format.specs.Entry.{Entry, entrySize, entryBytes}
-use Rattle.format.specs.Questions.{start, after, follows, timeQuestions, nextQuestions}
+use Rattle.format.specs.Questions.{start, after}
 use Rattle.format.specs.Next.{Answer, refused, entry, readNext}
 use Rattle.format.specs.FalseMinute.{distanceFrom}
 use Rattle.format.specs.declared.Due.{Due}
-use Rattle.format.proofs.Accepted.{entry-only}
-use Rattle.format.proofs.Refusals.{frame-accepted, order-asked}
+use Rattle.format.proofs.Accepted.{entry-only, next-counted}
+use Rattle.format.proofs.Refusals.{frame-accepted}
 use Rattle.format.proofs.FalseMinute.{frame-read-near}
 use Rattle.sequence.specs.Reading.{Found, stop, add, readFrames, secondsOf, bytesOf, dueAfter, readInto}
 use Rattle.sequence.specs.Refusals.{bitsAfter, stateAfter, Read, none, more, kept}
-use Rattle.sequence.specs.FalseMinute.{entriesRead, entryAtRank, bitsAtRank, NearAtRank, MinutesRead, FalseMinute, FalseMinuteOfWhole}
+use Rattle.sequence.specs.FalseMinute.{entriesRead, entryAtRank, bitsAtRank, TimeAtRank, NearAtRank, MinutesRead, FalseMinute, FalseMinuteOfWhole}
 use Rattle.sequence.proofs.Steps.{ended, no-space, frame-refused, frame-read}
 use Rattle.sequence.proofs.ReadRefusals.{after-5, recording-only, recording-accepted}
 
@@ -61,12 +59,11 @@ read-at due f (e ∷ es) (suc k) h c =
 
 -- question 14 after an entry
 next-minute : (due : Due) (d : Entry) (f : List ℕ) (e : Entry) → readNext (after due d) false f ≡ entry e → e .minute ≡ d .minute + 1
-unfolding nextQuestions timeQuestions answer
+unfolding after
 next-minute due d f e h =
     let s = entry-only (after due d) false f e h in
     let a = frame-accepted (after due d) false f .0 (subst (λ (c : Entry). readNext (after due d) false f ≡ entry c) s h) in
-    let q : follows (after due d) (e .minute) ≡ true = rw s (yes-at (nextQuestions (after due d) false f) a 14) in
-    eqb-true (e .minute) (d .minute + 1) (sym (order-asked .1 due d (e .minute)) ∙ q)
+    rw s (next-counted (d .minute + 1) _ false f a)
 
 counted : (due : Due) (d : Entry) (f : List ℕ) (es : List Entry) (j : ℕ) → j < length es → Chain (after due d) f es → entryAtRank j es .minute ≡ d .minute + 1 + j
 counted due d f [] j h c = absurd (omega arith)
@@ -85,25 +82,25 @@ from-first due f (e ∷ es) c j k hj hk = omega (arith, go j hj, go k hk)
 -- ---- what a false minute takes
 
 module _ (due : Due) (f : List ℕ) (es : List Entry) (c : Chain due f es) where
-  near-read : (m k : ℕ) → k < length es → m < minuteCount → NearAtRank k f es m → entryAtRank k es .minute ≡ m
-  near-read m k h l (inl d) = frame-read-near _ false _ _ m (read-at due f es k h c) l .within-one d
-  near-read m k h l (inr d) = frame-read-near _ false _ _ m (read-at due f es k h c) l .within-two (d .0) (d .1)
+  near-read : (m k : ℕ) → k < length es → TimeAtRank k es → m < minuteCount → NearAtRank k f es m → entryAtRank k es .minute ≡ m
+  near-read m k h t l (inl d) = frame-read-near _ false _ _ m (read-at due f es k h c) t l .within-one d
+  near-read m k h t l (inr d) = frame-read-near _ false _ _ m (read-at due f es k h c) t l .within-two (d .0) (d .1)
 
-  decides : (m k : ℕ) → k < length es → m + k < minuteCount → NearAtRank k f es (m + k) → (j : ℕ) → j < length es → entryAtRank j es .minute ≡ m + j
-  decides m k h l n j hj = omega (arith, near-read (m + k) k h l n, from-first due f es c j k hj h)
+  decides : (m k : ℕ) → k < length es → TimeAtRank k es → m + k < minuteCount → NearAtRank k f es (m + k) → (j : ℕ) → j < length es → entryAtRank j es .minute ≡ m + j
+  decides m k h t l n j hj = omega (arith, near-read (m + k) k h t l n, from-first due f es c j k hj h)
 
   minutes-read : MinutesRead f es
   minutes-read =
       record {
         one-rank-decides = decides;
-        false-minute-takes = λ m j hj ne k h l. (
+        false-minute-takes = λ m j hj ne k h t l. (
           elim (decLe 2 (distanceFrom (m + k) (bitsAtRank k f es))) [
             | yes g ↦ g
-            | no g ↦ absurd (ne (decides m k h l (inl (omega arith)) j hj))
+            | no g ↦ absurd (ne (decides m k h t l (inl (omega arith)) j hj))
           ],
           λ z. elim (decLe 3 (distanceFrom (m + k) (bitsAtRank k f es))) [
             | yes g ↦ g
-            | no g ↦ absurd (ne (decides m k h l (inr (omega arith, z)) j hj))
+            | no g ↦ absurd (ne (decides m k h t l (inr (omega arith, z)) j hj))
           ],
         );
       }

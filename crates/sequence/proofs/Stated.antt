@@ -7,6 +7,7 @@ use Rattle.sequence.specs.Bench.{BenchTable}
 use Rattle.sequence.specs.Unread.{UnreadBitsChangeNothing, UnreadBitsOfOneFrame}
 use Rattle.sequence.specs.Refusals.{WriteOrder, WriteAccepted, WriteRefused, WriteAnswers, WriteDone, WriteUndone, OrderAfter, RecordingRead, RecordingOnly, RecordingAccepted, RecordingRefused, RecordingAnswers, RecordingKept}
 use Rattle.sequence.specs.FalseMinute.{FalseMinute, FalseMinuteOfWhole}
+use Rattle.sequence.specs.Leap.{LeapLastRead}
 use Rattle.sequence.proofs.Refusals.{write-order, write-accepted, write-refused, write-answers, write-done, write-undone}
 use Rattle.sequence.proofs.Places.{inversions-alone, nothing-inverted, lengths-kept}
 use Rattle.sequence.proofs.ReadBack.{reads-back, lengths-sum, written-reads-back, single-reads-back, written-bit-inverted}
@@ -16,6 +17,7 @@ use Rattle.sequence.proofs.Unread.{unread-bits-change-nothing, unread-b
 use Rattle.sequence.proofs.ReadRefusals.{order-after, recording-read, recording-only, recording-accepted, recording-refused, recording-answers}
 use Rattle.sequence.proofs.Kept.{read-in-parts, state-at-end, recording-kept}
 use Rattle.sequence.proofs.FalseMinute.{false-minute, false-minute-of-whole}
+use Rattle.sequence.proofs.Leap.{leap-last-read}
 
 read-in-parts′ : ReadInParts
 read-in-parts′ = read-in-parts
@@ -103,3 +105,6 @@ false-minute′ = false-minute
 
 false-minute-of-whole′ : FalseMinuteOfWhole
 false-minute-of-whole′ = false-minute-of-whole
+
+leap-last-read′ : LeapLastRead
+leap-last-read′ = leap-last-read

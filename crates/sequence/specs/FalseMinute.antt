@@ -1,5 +1,5 @@
--- What a false minute takes, of a recording as read (document 01, "Time word" and "Buyer's note"; question 14): one frame near its minute
--- decides the minute of every frame.
+-- What a false minute takes, of a recording as read (document 01, "Time word" and "Buyer's note"; question 14): one time frame near its
+-- minute decides the minute of every frame.
 -- Assumes nothing.
 use Prim.Native.Nat.{ℕ, _+_, _*_, _/_, _≤_, _<_}
 use mathlib.Core.List.{List, []}
@@ -26,6 +26,10 @@ entryAtRank k es = getD es k (entryOf [])
 abbrev pub bitsAtRank : ℕ → List ℕ → List Entry → List ℕ
 bitsAtRank k f es = bitsAfter f (take k es)
 
+-- a time frame is read at rank k; a message has place 0 too, but no time word (document 02, 7), so that it makes no reading sure
+abbrev pub TimeAtRank : ℕ → List Entry → Type 0
+TimeAtRank k es = entryAtRank k es .message ≡ 0
+
 -- the 31 bits read at rank k are near minute m: at most one differs from its bits, or at most two do and the place is 0
 abbrev pub NearAtRank : ℕ → List ℕ → List Entry → ℕ → Type 0
 NearAtRank k f es m =
@@ -38,13 +42,13 @@ FarAtRank k f es m =
 
 -- of the entries es that are read from f
 pub record MinutesRead (f : List ℕ) (es : List Entry) : Type 0 where
-  -- where one rank is near its minute, from m at rank 0 on, every entry has its minute
-  pub one-rank-decides : (m k : ℕ) → k < length es → m + k < minuteCount → NearAtRank k f es (m + k)
+  -- where one rank of a time frame is near its minute, from m at rank 0 on, every entry has its minute
+  pub one-rank-decides : (m k : ℕ) → k < length es → TimeAtRank k es → m + k < minuteCount → NearAtRank k f es (m + k)
       → (j : ℕ) → j < length es → entryAtRank j es .minute ≡ m + j
-  -- where one entry has another minute, every rank is far from its own: a false minute takes two inverted bits in every frame, and three
-  -- in each frame with place 0
+  -- where one entry has another minute, every rank of a time frame is far from its own: a false minute takes two inverted bits in every
+  -- time frame, and three in each with place 0
   pub false-minute-takes : (m j : ℕ) → j < length es → entryAtRank j es .minute ≢ m + j
-      → (k : ℕ) → k < length es → m + k < minuteCount → FarAtRank k f es (m + k)
+      → (k : ℕ) → k < length es → TimeAtRank k es → m + k < minuteCount → FarAtRank k f es (m + k)
 
 -- theorem: any bits that are read into any buffer, from any state on; the entries before a refusal too
 abbrev pub FalseMinute : Type 0

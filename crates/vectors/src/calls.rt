@@ -11,8 +11,10 @@ pub fn call(letter: u8, text: &[u8], behind: &[u8], n: usize) {
         b'd' => dates::date(text),
         b'm' => dates::minute(text),
         b't' => dates::local(text),
-        // given bits as one frame, as a recording
+        // given bits as one frame, as a recording; in a state as both, as a recording; in pieces
         b'o' | b'a' => reading::given(letter, text, behind, n),
+        b'i' | b'u' => reading::resumed(letter, text, behind, n),
+        b'n' => reading::pieces(text, behind, n),
         // a minute of the amplitude code written and read, given symbols read
         b'e' => amplitude_trials::written(text),
         b'r' => amplitude_trials::given(behind, n),

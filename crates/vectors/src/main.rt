@@ -10,7 +10,7 @@ use libc::STDOUT_FILENO;
 use trials::show;
 
 // Space for all cases.
-const INPUT_SPACE: usize = 196_608;
+const INPUT_SPACE: usize = 262_144;
 
 const LINE_FEED: u8 = b'\n';
 

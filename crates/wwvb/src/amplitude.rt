@@ -2,6 +2,7 @@
 ghost use mathlib.Core.Path.{_≡_};
 ghost use mathlib.Core.Bool.{true};
 ghost use lib.ListN.{length};
+ghost use Rattle.messages.specs.Bytes.{scheduleOf};
 ghost use Rattle.amplitude_rules.specs.Amplitude.{legalValues};
 ghost use Rattle.amplitude_rules.specs.Reading.{readAmplitude};
 ghost use Rattle.amplitude_rules.specs.Writing.{writeAmplitude, symbolsWritten};
@@ -31,7 +32,7 @@ pub struct AmplitudeReply {
     pub length: u32,
 }
 
-// Writes a minute of the amplitude code by the plan of the six numbers.
+// Writes a minute of the amplitude code by the plan of the six numbers and the messages.
 #[no_mangle]
 pub extern "C" fn wwvb_write_amplitude(
     kind: u32,
@@ -40,6 +41,7 @@ pub extern "C" fn wwvb_write_amplitude(
     leap_month: u32,
     leap_sign: i32,
     notice: u32,
+    messages: &[u8],
     minute: u32,
     ut1_sign: i32,
     ut1_tenths: u32,
@@ -47,9 +49,9 @@ pub extern "C" fn wwvb_write_amplitude(
 ) -> WriteReply
     ensures { λ r.
         ⌜ (symbolsReply r
-        ≡ replyNumbers 1 (writeAmplitude (planOf kind spring autumn «leap_month» «leap_sign» notice) minute «ut1_sign» «ut1_tenths» (length (now (out .entry)))))
+        ≡ replyNumbers 1 (writeAmplitude (scheduleOf (planOf kind spring autumn «leap_month» «leap_sign» notice) (now (messages .entry))) minute «ut1_sign» «ut1_tenths» (length (now (out .entry)))))
         × (now (out .exit)
-        ≡ symbolsWritten (planOf kind spring autumn «leap_month» «leap_sign» notice) minute «ut1_sign» «ut1_tenths» (now (out .entry))) ⌝ }
+        ≡ symbolsWritten (scheduleOf (planOf kind spring autumn «leap_month» «leap_sign» notice) (now (messages .entry))) minute «ut1_sign» «ut1_tenths» (now (out .entry))) ⌝ }
 {
     let plan = Plan {
         kind,
@@ -59,7 +61,7 @@ pub extern "C" fn wwvb_write_amplitude(
         leap_sign,
         notice,
     };
-    let answer = amplitude_writer::write_minute(plan, minute, ut1_sign, ut1_tenths, out);
+    let answer = amplitude_writer::write_minute(plan, messages, minute, ut1_sign, ut1_tenths, out);
     match answer {
         WriteAnswer::Written(symbols) => WriteReply {
             refusal: 0,

@@ -6,6 +6,7 @@ ghost use mathlib.Core.List.{_∷_};
 ghost use lib.ListN.{length, replicate};
 ghost use Rattle.calendar.specs.Answer.{dateValues, dateOfMinute, minuteOfDate};
 ghost use Rattle.localtime.specs.Local.{localOf};
+ghost use Rattle.messages.specs.Bytes.{scheduleOf};
 ghost use Rattle.format.specs.Questions.{start};
 ghost use Rattle.format.specs.Next.{readOne};
 ghost use Rattle.sequence.specs.Writing.{writeResult, bufferWritten};
@@ -140,7 +141,7 @@ pub extern "C" fn wwvb_date_to_minute(
     }
 }
 
-// Writes a recording by the plan of the six numbers.
+// Writes a recording by the plan of the six numbers and its messages, ten bytes each.
 #[no_mangle]
 pub extern "C" fn wwvb_write_recording(
     kind: u32,
@@ -149,15 +150,16 @@ pub extern "C" fn wwvb_write_recording(
     leap_month: u32,
     leap_sign: i32,
     notice: u32,
+    messages: &[u8],
     first: u32,
     count: u32,
     out: &mut [u8],
 ) -> WriteReply
     ensures { λ r.
         ⌜ (writeReply r
-        ≡ writeResult (planOf kind spring autumn «leap_month» «leap_sign» notice) first count (length (now (out .entry))))
+        ≡ writeResult (scheduleOf (planOf kind spring autumn «leap_month» «leap_sign» notice) (now (messages .entry))) first count (length (now (out .entry))))
         × (now (out .exit)
-        ≡ bufferWritten (planOf kind spring autumn «leap_month» «leap_sign» notice) first count (now (out .entry))) ⌝ }
+        ≡ bufferWritten (scheduleOf (planOf kind spring autumn «leap_month» «leap_sign» notice) (now (messages .entry))) first count (now (out .entry))) ⌝ }
 {
     let plan = Plan {
         kind,
@@ -167,7 +169,7 @@ pub extern "C" fn wwvb_write_recording(
         leap_sign,
         notice,
     };
-    let answer = recording::write_recording(plan, first, count, out);
+    let answer = recording::write_recording(plan, messages, first, count, out);
     match answer {
         WriteAnswer::Written(bits) => WriteReply { refusal: 0, bits },
         WriteAnswer::Refused(question) => {

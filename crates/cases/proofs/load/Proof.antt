@@ -4,12 +4,13 @@ use Prim.Native.Nat.{_-_}
 use mathlib.Core.Path.{_≡_, refl, _∙_}
 use native.Mathlib.Omega.{arith}
 use lib.ListN.{length, length-set}
+use Rattle.cases.specs.Cases.{givenAt}
 use Rattle.cases.proofs.Laws.{LoadedTo, load-more}
 use Rattle.cases.proofs.load.Statement.{statement}
 use Rattle.cases.proofs.load.Tie as tie
 
 abbrev Inv-loop : tie.InvT-loop
-Inv-loop digits bits₀ i₀ bits i = (length bits ≡ length bits₀) × LoadedTo digits bits i
+Inv-loop digits bits₀ i₀ bits i = (length bits ≡ length bits₀) × LoadedTo (givenAt digits) bits i
 
 abbrev μ-loop : tie.MeasureT-loop
 μ-loop digits bits₀ i₀ bits i = length bits₀ - i

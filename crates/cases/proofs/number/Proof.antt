@@ -1,60 +1,19 @@
 -- `cases::number` meets its contract.
 -- Assumes nothing.
-use Prim.Native.Nat.{_-_}
-use mathlib.Core.Path.{_≡_, refl, sym, ap, _∙_}
-use native.Mathlib.Omega.{arith}
-use lib.ListN.{length, drop}
-use Rattle.cases.specs.Cases.{folded, stepped, nothingYet, numberAt}
-use Rattle.cases.specs.declared.Scan.{Scan}
-use Rattle.cases.proofs.Laws.{fold-more, fold-end}
+use borrow.Author.Needs.{needs}
+use Rattle.cases.specs.Cases.{numberAt}
 use Rattle.cases.proofs.number.Statement.{statement}
 use Rattle.cases.proofs.number.Tie as tie
 
-abbrev Inv-loop : tie.InvT-loop
-Inv-loop text k scan₀ i₀ scan i = folded (stepped k) scan (drop i text) ≡ folded (stepped k) nothingYet text
+long-requires : tie.Need-long-requires
+long-requires c κs = search needs
 
-abbrev μ-loop : tie.MeasureT-loop
-μ-loop text k scan₀ i₀ scan i = length text - i
+cast-result : tie.Need-cast-result
+cast-result c = search needs
 
-loop-holds : tie.Need-loop-holds Inv-loop μ-loop
-unfolding nothingYet
-loop-holds c = refl
-
-shared-slice-read-step : tie.Need-shared-slice-read-step Inv-loop μ-loop
-shared-slice-read-step c = omega arith
-
-step-requires : tie.Need-step-requires Inv-loop μ-loop
-step-requires c κs = tt
-
-add-i : tie.Need-add-i Inv-loop μ-loop
-add-i c = omega arith
-
-loop-less : tie.Need-loop-less Inv-loop μ-loop
-loop-less c = omega arith
-
-loop-again : tie.Need-loop-again Inv-loop μ-loop
-loop-again c =
-    let l = c .before .before .before .loop in
-    let a = c .before .before .before .before .before .args in
-    rw (c .step .ensures) (sym (fold-more (stepped (a .k)) (l .scan) (a .text .now) (l .i) (omega arith)) ∙ l .inv)
-
-returns : tie.Need-returns Inv-loop μ-loop
+returns : tie.Need-returns
 unfolding numberAt
-returns c =
-    let l = c .before .loop in
-    let a = c .before .before .before .args in
-    ap (λ (s : Scan). s .value) (sym (fold-end (stepped (a .k)) (l .scan) (a .text .now) (l .i) (omega arith)) ∙ l .inv)
+returns c = rw (c .long .ensures)
 
 pub number-spec : {M : Type 1} → statement M
-number-spec =
-    tie.close
-    (tie.spec
-    Inv-loop
-    μ-loop
-    loop-holds
-    shared-slice-read-step
-    step-requires
-    add-i
-    loop-less
-    loop-again
-    returns)
+number-spec = tie.close (tie.spec long-requires cast-result returns)

@@ -4,14 +4,11 @@ use borrow.Author.Needs.{needs}
 use Rattle.cases.proofs.with_digit.Statement.{statement}
 use Rattle.cases.proofs.with_digit.Tie as tie
 
-mul-longer : tie.Need-mul-longer
-mul-longer c = search needs
+mul-result : tie.Need-mul-result
+mul-result c = search needs
 
-add-longer : tie.Need-add-longer
-add-longer c = search needs
-
-cast-result : tie.Need-cast-result
-cast-result c = search needs
+add-result : tie.Need-add-result
+add-result c = search needs
 
 returns : tie.Need-returns
 returns c = rw (c .if1 .taken)
@@ -20,4 +17,4 @@ returns-2 : tie.Need-returns-2
 returns-2 c = search needs
 
 pub with-digit-spec : {M : Type 1} → statement M
-with-digit-spec = tie.close (tie.spec mul-longer add-longer cast-result returns returns-2)
+with-digit-spec = tie.close (tie.spec mul-result add-result returns returns-2)

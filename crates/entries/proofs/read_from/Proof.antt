@@ -9,16 +9,18 @@ use mathlib.Core.List.{List, [], _++_}
 use native.Mathlib.Nat.{sub-zero}
 use lib.ListN.{length, take, drop, length-drop, drop-of-length-le}
 use Rattle.format.specs.Entry.{Entry, entrySize, entryBytes}
+use Rattle.format.specs.Message.{messageEntry}
+use Rattle.format.specs.Questions.{after}
 use Rattle.format.specs.Next.{entry, readNext}
 use Rattle.format.specs.declared.Due.{Due}
-use Rattle.format.specs.declared.Due.the-variants.{Minute}
+use Rattle.frame.specs.declared.Told.{Told}
 use Rattle.frame.specs.Answer.{refusalNumber, entryFrom, frameNumbers}
 use Rattle.format.proofs.Accepted.{Accepted, accepted}
 use Rattle.sequence.specs.Reading.{stop, readFrames, readFrom, dueFrom, Outcome}
 use Rattle.sequence.proofs.Resume.{resume, resume-none, resume-stop}
 use Rattle.sequence.proofs.Steps.{ended, no-space, frame-refused}
 use Rattle.sequence.proofs.Tails.{tail}
-use Rattle.entries.proofs.Turn.{put-length, turn, turn-due, after-is}
+use Rattle.entries.proofs.Turn.{put-length, turn, turn-due, after-time, after-message}
 use Rattle.entries.proofs.read_from.Statement.{statement}
 use Rattle.entries.proofs.read_from.Tie as tie
 
@@ -76,39 +78,60 @@ module _ (r : tie.After-read-next Inv-loop μ-loop) where
   room : a .loop .count * entrySize + entrySize ≤ length (a .loop .entries)
   room = omega (arith, r .before .before .if1 .left)
 
--- where it is accepted
-module _ (k : tie.After-known-told2 Inv-loop μ-loop) where
-  abbrev r : tie.After-read-next Inv-loop μ-loop
-  r = k .before .before .before
-
-  abbrev e : Entry
-  e = entryFrom (k .before .answer2 .given .0 .0) (k .before .answer2 .given .0 .1 .0)
-
-  entry-is : readNext (a r .loop .next) false (rest (a r)) ≡ entry e
-  entry-is = sym (answer-is r) ∙ ap frameNumbers (k .before .answer2 .given .1)
-
+-- where it is accepted, with the entry e
+module _ (r : tie.After-read-next Inv-loop μ-loop) (e : Entry) (entry-is : readNext (a r .loop .next) false (rest (a r)) ≡ entry e) where
   fine : Accepted (rest (a r)) e
   fine = accepted (a r .loop .next) false (rest (a r)) e entry-is
 
   left : a r .loop .used + e .seconds ≤ length (bits (a r))
   left = omega (arith, fine .enough-left, length-drop (a r .loop .used) (bits (a r)), a r .loop .inv .0)
 
-  -- the buffer when the part comes back as ys, and what is left to read
-  onward : (ys : List ℕ)
-      → ys ≡ entryBytes e ++ drop entrySize (take (length (a r .loop .entries) - a r .loop .count * entrySize) (drop (a r .loop .count * entrySize) (a r .loop .entries)))
-      → resume (a r .loop .count + 1) (a r .loop .used + e .seconds)
-      (take (a r .loop .count * entrySize) (a r .loop .entries) ++ (ys ++ drop (length (a r .loop .entries) - a r .loop .count * entrySize) (drop (a r .loop .count * entrySize) (a r .loop .entries))))
-      (readFrames (fewer r) (Minute (e .minute + 1)) (drop (a r .loop .used + e .seconds) (bits (a r))))
-      ≡ readFrom (first (a r)) (buffer (a r)) (bits (a r))
-  onward ys h =
-      turn (fewer r) (a r .loop .count) (a r .loop .used) (a r .loop .next) (Minute (e .minute + 1)) (bits (a r)) (a r .loop .entries) ys e (readFrom (first (a r)) (buffer (a r)) (bits (a r)))
-      (after-is (a r .loop .next) e) (some (r .before .before .before)) entry-is (room r) h
-      (ap (λ (n : ℕ). resume (a r .loop .count) (a r .loop .used) (a r .loop .entries) (readFrames n (a r .loop .next) (rest (a r)))) (sym (one-slot r)) ∙ a r .loop .inv .3)
+  part-room : entrySize ≤ length (take (length (a r .loop .entries) - a r .loop .count * entrySize) (drop (a r .loop .count * entrySize) (a r .loop .entries)))
+  part-room =
+      let b = a r .loop in
+      rw (tail (b .entries) (b .count * entrySize)) (omega (arith, room r, length-drop (b .count * entrySize) (b .entries)))
 
-  onward-due : readFrames (fewer r) (Minute (e .minute + 1)) (drop (a r .loop .used + e .seconds) (bits (a r))) .due ≡ dueFrom (first (a r)) (buffer (a r)) (bits (a r))
-  onward-due =
-      turn-due (fewer r) (a r .loop .used) (a r .loop .next) (Minute (e .minute + 1)) (dueFrom (first (a r)) (buffer (a r)) (bits (a r))) (bits (a r)) e (after-is (a r .loop .next) e)
-      (some (r .before .before .before)) entry-is (rw (one-slot r) at (a r .loop .inv .4))
+  -- the buffer when the part comes back as ys, and what is left to read in the state d
+  again : (d : Due) → d ≡ after (a r .loop .next) e → (ys : List ℕ)
+      → ys ≡ entryBytes e ++ drop entrySize (take (length (a r .loop .entries) - a r .loop .count * entrySize) (drop (a r .loop .count * entrySize) (a r .loop .entries)))
+      → Inv-loop (bits (a r)) (buffer (a r)) 0 0 (first (a r))
+      (take (a r .loop .count * entrySize) (a r .loop .entries) ++ (ys ++ drop (length (a r .loop .entries) - a r .loop .count * entrySize) (drop (a r .loop .count * entrySize) (a r .loop .entries))))
+      (a r .loop .used + e .seconds) (a r .loop .count + 1) d
+  again d ed ys h = (
+    left,
+    omega (arith, room r, a r .loop .inv .2),
+    put-length (a r .loop .entries) ys (a r .loop .count * entrySize) e (room r) h ∙ a r .loop .inv .2,
+    turn (fewer r) (a r .loop .count) (a r .loop .used) (a r .loop .next) d (bits (a r)) (a r .loop .entries) ys e (readFrom (first (a r)) (buffer (a r)) (bits (a r)))
+        ed (some (r .before .before .before)) entry-is (room r) h
+        (ap (λ (n : ℕ). resume (a r .loop .count) (a r .loop .used) (a r .loop .entries) (readFrames n (a r .loop .next) (rest (a r)))) (sym (one-slot r)) ∙ a r .loop .inv .3),
+    turn-due (fewer r) (a r .loop .used) (a r .loop .next) d (dueFrom (first (a r)) (buffer (a r)) (bits (a r))) (bits (a r)) e ed
+        (some (r .before .before .before)) entry-is (rw (one-slot r) at (a r .loop .inv .4)),
+  )
+
+-- where it is a time frame
+module _ (k : tie.After-known-told2 Inv-loop μ-loop) where
+  abbrev rt : tie.After-read-next Inv-loop μ-loop
+  rt = k .before .before .before
+
+  abbrev et : Entry
+  et = entryFrom (k .before .answer2 .given .0 .0) (k .before .answer2 .given .0 .1 .0)
+
+  time-is : readNext (a rt .loop .next) false (rest (a rt)) ≡ entry et
+  time-is = sym (answer-is rt) ∙ ap frameNumbers (k .before .answer2 .given .1)
+
+-- where it is a message
+module _ (k : tie.After-known-told3 Inv-loop μ-loop) where
+  abbrev rm : tie.After-read-next Inv-loop μ-loop
+  rm = k .before .before .before
+
+  abbrev told : Told
+  told = k .before .answer3 .given .0 .0
+
+  abbrev em : Entry
+  em = messageEntry (told .minute) (told .length) (told .notice) (told .payload)
+
+  message-is : readNext (a rm .loop .next) false (rest (a rm)) ≡ entry em
+  message-is = sym (answer-is rm) ∙ ap frameNumbers (k .before .answer3 .given .1)
 
 loop-holds : tie.Need-loop-holds Inv-loop μ-loop
 unfolding readFrom dueFrom
@@ -169,36 +192,84 @@ part-put-entry-end : tie.Need-part-put-entry-end Inv-loop μ-loop
 part-put-entry-end c = omega arith
 
 put-entry-requires : tie.Need-put-entry-requires Inv-loop μ-loop
-put-entry-requires c κs =
-    let q = r (c .before) in
-    let b = a q .loop in
-    rw (tail (b .entries) (b .count * entrySize)) (omega (arith, room q, length-drop (b .count * entrySize) (b .entries)))
+put-entry-requires c κs = let k = c .before in part-room (rt k) (et k) (time-is k)
 
 cast-used : tie.Need-cast-used Inv-loop μ-loop
 cast-used c = search needs
 
 add-used : tie.Need-add-used Inv-loop μ-loop
-add-used c = omega (arith, left (c .before .before .before .before .before))
+add-used c = omega (arith, left (rt (c .before .before .before .before .before)) (et (c .before .before .before .before .before)) (time-is (c .before .before .before .before .before)))
 
 add-count : tie.Need-add-count Inv-loop μ-loop
 add-count c = omega arith
 
-add-t26 : tie.Need-add-t26 Inv-loop μ-loop
-add-t26 c = omega (arith, fine (c .before .before .before .before .before .before) .minute-in)
+leap-after-time-requires : tie.Need-leap-after-time-requires Inv-loop μ-loop
+leap-after-time-requires c κs = search needs
+
+add-t29 : tie.Need-add-t29 Inv-loop μ-loop
+add-t29 c =
+    let k = c .before .before .before .before .before .before .before in
+    omega (arith, fine (rt k) (et k) (time-is k) .minute-in)
 
 loop-less : tie.Need-loop-less Inv-loop μ-loop
-loop-less c = let k = c .before .before .before .before .before .before in omega (arith, left k, fine k .long)
+loop-less c =
+    let k = c .before .before .before .before .before .before .before in
+    omega (arith, left (rt k) (et k) (time-is k), fine (rt k) (et k) (time-is k) .long)
 
 loop-again : tie.Need-loop-again Inv-loop μ-loop
 loop-again c =
-    let k = c .before .before .before .before .before .before in
-    let put = c .before .before .before .before .put-entry in (
-      left k,
-      omega (arith, room (r k), a (r k) .loop .inv .2),
-      put-length (a (r k) .loop .entries) (put .last .1 .1 .0) (a (r k) .loop .count * entrySize) (e k) (room (r k)) (put .ensures) ∙ a (r k) .loop .inv .2,
-      onward k (put .last .1 .1 .0) (put .ensures),
-      onward-due k,
-    )
+    let k = c .before .before .before .before .before .before .before in
+    let put = c .before .before .before .before .before .put-entry in
+    again (rt k) (et k) (time-is k) _ (after-time (a (rt k) .loop .next) (k .before .answer2 .given .0 .0) (k .before .answer2 .given .0 .1 .0) _ (c .before .leap-after-time .ensures)) (put .last .1 .1 .0) (put .ensures)
+
+enum-known-answer-3 : tie.Need-enum-known-answer-3 Inv-loop μ-loop
+enum-known-answer-3 c = search needs
+
+sub-put-message : tie.Need-sub-put-message Inv-loop μ-loop
+sub-put-message c = omega arith
+
+part-put-message-start : tie.Need-part-put-message-start Inv-loop μ-loop
+part-put-message-start c = omega arith
+
+part-put-message-end : tie.Need-part-put-message-end Inv-loop μ-loop
+part-put-message-end c = omega arith
+
+put-message-requires : tie.Need-put-message-requires Inv-loop μ-loop
+put-message-requires c κs = let k = c .before in part-room (rm k) (em k) (message-is k)
+
+cast-used-2 : tie.Need-cast-used-2 Inv-loop μ-loop
+cast-used-2 c = search needs
+
+add-used-2 : tie.Need-add-used-2 Inv-loop μ-loop
+add-used-2 c = omega (arith, left (rm (c .before .before .before .before .before)) (em (c .before .before .before .before .before)) (message-is (c .before .before .before .before .before)))
+
+add-count-2 : tie.Need-add-count-2 Inv-loop μ-loop
+add-count-2 c = omega arith
+
+leap-read-requires : tie.Need-leap-read-requires Inv-loop μ-loop
+leap-read-requires c κs = search needs
+
+leap-after-requires : tie.Need-leap-after-requires Inv-loop μ-loop
+leap-after-requires c κs = search needs
+
+add-t36 : tie.Need-add-t36 Inv-loop μ-loop
+unfolding messageEntry
+add-t36 c =
+    let k = c .before .before .before .before .before .before .before .before in
+    omega (arith, fine (rm k) (em k) (message-is k) .minute-in)
+
+loop-less-2 : tie.Need-loop-less-2 Inv-loop μ-loop
+unfolding messageEntry
+loop-less-2 c =
+    let k = c .before .before .before .before .before .before .before .before in
+    omega (arith, left (rm k) (em k) (message-is k), fine (rm k) (em k) (message-is k) .long)
+
+loop-again-2 : tie.Need-loop-again-2 Inv-loop μ-loop
+unfolding messageEntry
+loop-again-2 c =
+    let k = c .before .before .before .before .before .before .before .before in
+    let put = c .before .before .before .before .before .before .put-message in
+    again (rm k) (em k) (message-is k) _ (after-message (a (rm k) .loop .next) (told k) _ (c .before .leap-after .ensures ∙ rw (c .before .before .leap-read .ensures))) (put .last .1 .0) (put .ensures)
 
 same-length-3 : tie.Need-same-length-3 Inv-loop μ-loop
 same-length-3 c = c .before .loop .inv .2
@@ -235,8 +306,22 @@ read-from-spec =
     cast-used
     add-used
     add-count
-    add-t26
+    leap-after-time-requires
+    add-t29
     loop-less
     loop-again
+    enum-known-answer-3
+    sub-put-message
+    part-put-message-start
+    part-put-message-end
+    put-message-requires
+    cast-used-2
+    add-used-2
+    add-count-2
+    leap-read-requires
+    leap-after-requires
+    add-t36
+    loop-less-2
+    loop-again-2
     same-length-3
     returns-3)

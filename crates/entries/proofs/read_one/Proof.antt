@@ -5,15 +5,17 @@ use mathlib.Core.Path.{_≡_, sym, ap, _∙_}
 use native.Mathlib.Omega.{arith}
 use borrow.Author.Needs.{needs}
 use Rattle.format.specs.Entry.{Entry}
+use Rattle.format.specs.Message.{messageEntry}
 use Rattle.format.specs.Next.{refused, entry, readNext}
+use Rattle.frame.specs.declared.Told.{Told}
 use Rattle.frame.specs.Answer.{refusalNumber, entryFrom, frameNumbers}
 use Rattle.format.proofs.Accepted.{accepted}
 use Rattle.format.proofs.One.{one-no-space, one-refused, one-read}
-use Rattle.entries.proofs.Turn.{after-is}
+use Rattle.entries.proofs.Turn.{after-time, after-message}
 use Rattle.entries.proofs.read_one.Statement.{statement}
 use Rattle.entries.proofs.read_one.Tie as tie
 
--- where the frame is accepted
+-- where the frame is a time frame
 module _ (k : tie.After-known-told2) where
   abbrev r : tie.After-read-next
   r = k .before .before .before
@@ -26,6 +28,23 @@ module _ (k : tie.After-known-told2) where
 
   entry-is : readNext (z .args .due) true (z .args .bits .now) ≡ entry e
   entry-is = sym (r .read-next .ensures) ∙ ap frameNumbers (k .before .answer2 .given .1)
+
+-- where it is a message
+module _ (k : tie.After-known-told3) where
+  abbrev rm : tie.After-read-next
+  rm = k .before .before .before
+
+  abbrev zm : tie.Start
+  zm = rm .before .before .before .before
+
+  abbrev told : Told
+  told = k .before .answer3 .given .0 .0
+
+  abbrev em : Entry
+  em = messageEntry (told .minute) (told .length) (told .notice) (told .payload)
+
+  message-is : readNext (zm .args .due) true (zm .args .bits .now) ≡ entry em
+  message-is = sym (rm .read-next .ensures) ∙ ap frameNumbers (k .before .answer3 .given .1)
 
 returns : tie.Need-returns
 returns c =
@@ -44,10 +63,31 @@ enum-known-answer-2 c = search needs
 put-entry-requires : tie.Need-put-entry-requires
 put-entry-requires c κs = search needs
 
-add-t18 : tie.Need-add-t18
-add-t18 c =
-    let k = c .before .before .before .before .before in
+leap-after-time-requires : tie.Need-leap-after-time-requires
+leap-after-time-requires c κs = search needs
+
+add-t21 : tie.Need-add-t21
+add-t21 c =
+    let k = c .before .before .before .before .before .before in
     omega (arith, accepted (z k .args .due) true (z k .args .bits .now) (e k) (entry-is k) .minute-in)
+
+enum-known-answer-3 : tie.Need-enum-known-answer-3
+enum-known-answer-3 c = search needs
+
+put-message-requires : tie.Need-put-message-requires
+put-message-requires c κs = search needs
+
+leap-read-requires : tie.Need-leap-read-requires
+leap-read-requires c κs = search needs
+
+leap-after-requires : tie.Need-leap-after-requires
+leap-after-requires c κs = search needs
+
+add-t28 : tie.Need-add-t28
+unfolding messageEntry
+add-t28 c =
+    let k = c .before .before .before .before .before .before .before in
+    omega (arith, accepted (zm k .args .due) true (zm k .args .bits .now) (em k) (message-is k) .minute-in)
 
 returns-2 : tie.Need-returns-2
 returns-2 c =
@@ -62,10 +102,22 @@ same-length c = search needs
 
 returns-3 : tie.Need-returns-3
 returns-3 c =
-    let k = c .before .before .before .before .before in
+    let k = c .before .before .before .before .before .before in
     let a = z k .args in
-    let put = c .before .before .before .put-entry in
-    one-read (a .due) (a .entry .now) (a .bits .now) (e k) (put .last .1 .1 .0) _ (r k .before .if1 .left) (entry-is k) (put .ensures) (after-is (a .due) (e k))
+    let put = c .before .before .before .before .put-entry in
+    one-read (a .due) (a .entry .now) (a .bits .now) (e k) (put .last .1 .1 .0) _ (r k .before .if1 .left) (entry-is k) (put .ensures)
+    (after-time (a .due) (k .before .answer2 .given .0 .0) (k .before .answer2 .given .0 .1 .0) _ (c .before .leap-after-time .ensures))
+
+same-length-2 : tie.Need-same-length-2
+same-length-2 c = search needs
+
+returns-4 : tie.Need-returns-4
+returns-4 c =
+    let k = c .before .before .before .before .before .before .before in
+    let a = zm k .args in
+    let put = c .before .before .before .before .before .put-message in
+    one-read (a .due) (a .entry .now) (a .bits .now) (em k) (put .last .1 .0) _ (rm k .before .if1 .left) (message-is k) (put .ensures)
+    (after-message (a .due) (told k) _ (c .before .leap-after .ensures ∙ rw (c .before .before .leap-read .ensures)))
 
 pub read-one-spec : {M : Type 1} → statement M
 read-one-spec =
@@ -76,7 +128,15 @@ read-one-spec =
     enum-known-answer
     enum-known-answer-2
     put-entry-requires
-    add-t18
+    leap-after-time-requires
+    add-t21
+    enum-known-answer-3
+    put-message-requires
+    leap-read-requires
+    leap-after-requires
+    add-t28
     returns-2
     same-length
-    returns-3)
+    returns-3
+    same-length-2
+    returns-4)

@@ -9,7 +9,8 @@ use mir.Facts.{toZ-ofZ}
 use lib.IntN.{ℤ}
 use lib.ListN.{length}
 use Rattle.bits.specs.Numbers.{Numbers}
-use Rattle.plan.specs.declared.Plan.{Plan}
+use Rattle.messages.specs.Message.{Schedule}
+use Rattle.messages.specs.Bytes.{scheduleOf}
 use Rattle.amplitude_rules.specs.Writing.{writeAmplitude, symbolsWritten}
 use Rattle.amplitude_writer.specs.Answer.{writeRefusalNumber, writeNumbers}
 use Rattle.amplitude_writer.specs.declared.WriteRefusal.{WriteRefusal}
@@ -20,23 +21,23 @@ use borrow.Author.Needs.{needs}
 use Rattle.wwvb.proofs.amplitude.wwvb_write_amplitude.Statement.{statement}
 use Rattle.wwvb.proofs.amplitude.wwvb_write_amplitude.Tie as tie
 
--- the plan that the struct holds is the plan of the six numbers: its sign is that of its bits, and so is that of UT1
+-- the plan that the struct holds is the plan of the six numbers: its sign is that of its bits, and so is that of UT1; the messages are those given
 module _ (a : tie.Start) where
-  abbrev plan : ℤ → Plan
-  plan z = planOf (a .args .kind) (a .args .spring) (a .args .autumn) (a .args .leap-month) z (a .args .notice)
+  abbrev schedule : ℤ → Schedule
+  schedule z = scheduleOf (planOf (a .args .kind) (a .args .spring) (a .args .autumn) (a .args .leap-month) z (a .args .notice)) (a .args .messages .now)
 
   abbrev through : ℤ → ℤ
   through z = toZ w32 (ofZ w32 z)
 
   -- what a function of both signs gives
-  by-signs : {A : Type 0} {x : A} (f : ℤ → ℤ → A) → x ≡ f (through (a .args .leap-sign)) (through (a .args .ut1-sign)) → x ≡ f (a .args .leap-sign) (a .args .ut1-sign)
-  by-signs f e = e ∙ ap₂ f (toZ-ofZ (a .fits .leap-sign)) (toZ-ofZ (a .fits .ut1-sign))
+  by-signs : {A : Type 0} {x y : A} (f : ℤ → ℤ → A) → x ≡ y → y ≡ f (through (a .args .leap-sign)) (through (a .args .ut1-sign)) → x ≡ f (a .args .leap-sign) (a .args .ut1-sign)
+  by-signs f d e = d ∙ e ∙ ap₂ f (toZ-ofZ (a .fits .leap-sign)) (toZ-ofZ (a .fits .ut1-sign))
 
   abbrev numbersBy : ℤ → ℤ → Numbers
-  numbersBy z y = writeAmplitude (plan z) (a .args .minute) y (a .args .ut1-tenths) (length (a .args .out .now))
+  numbersBy z y = writeAmplitude (schedule z) (a .args .minute) y (a .args .ut1-tenths) (length (a .args .out .now))
 
   abbrev bufferBy : ℤ → ℤ → List ℕ
-  bufferBy z y = symbolsWritten (plan z) (a .args .minute) y (a .args .ut1-tenths) (a .args .out .now)
+  bufferBy z y = symbolsWritten (schedule z) (a .args .minute) y (a .args .ut1-tenths) (a .args .out .now)
 
 refused-reply : (x : WriteRefusal) → writeRefusalNumber x ∷ 0 ∷ [] ≡ replyNumbers 1 (writeNumbers (Refused x))
 unfolding replyNumbers
@@ -67,8 +68,8 @@ returns : tie.Need-returns
 unfolding replyNumbers
 returns c =
     let w = c .before .before .before .before .before .write-minute in
-    let a = c .before .before .before .before .before .before .before .before in
-    (ap (replyNumbers 1) (by-signs a (numbersBy a) (ap writeNumbers (sym (c .before .answer .given .1)) ∙ w .ensures .0)), by-signs a (bufferBy a) (w .ensures .1))
+    let a = c .before .before .before .before .before .before .before .before .before in
+    (ap (replyNumbers 1) (by-signs a (numbersBy a) (ap writeNumbers (sym (c .before .answer .given .1))) (w .ensures .0)), by-signs a (bufferBy a) refl (w .ensures .1))
 
 same-length-2 : tie.Need-same-length-2
 same-length-2 c = search needs
@@ -76,12 +77,12 @@ same-length-2 c = search needs
 returns-2 : tie.Need-returns-2
 returns-2 c =
     let w = c .before .before .before .before .before .before .write-minute in
-    let a = c .before .before .before .before .before .before .before .before .before in
+    let a = c .before .before .before .before .before .before .before .before .before .before in
     let s = c .before .before in (
       ap (λ (n : ℕ). n ∷ 0 ∷ []) (c .number .ensures)
           ∙ refused-reply (s .answer2 .given .0 .0)
-          ∙ ap (replyNumbers 1) (by-signs a (numbersBy a) (ap writeNumbers (sym (s .answer2 .given .1)) ∙ w .ensures .0)),
-      by-signs a (bufferBy a) (w .ensures .1),
+          ∙ ap (replyNumbers 1) (by-signs a (numbersBy a) (ap writeNumbers (sym (s .answer2 .given .1))) (w .ensures .0)),
+      by-signs a (bufferBy a) refl (w .ensures .1),
     )
 
 pub wwvb-write-amplitude-spec : {M : Type 1} → statement M

@@ -1,0 +1,4 @@
+pub mod Message
+pub mod Bytes
+pub mod Walk
+pub mod Theorems
