@@ -186,6 +186,18 @@ pub fn read_one(bits: &[u8], entry: &mut [u8], due: Due) -> One
     }
 }
 
+// The summary of a reading that a refusal stops.
+fn stopped(entries: usize, used: usize, refusal: Refusal, due: Due) -> Summary
+    ensures { λ r. ⌜ r ≡ record { entries = entries; used = used; end = End.Refused refusal; due = due } ⌝ }
+{
+    Summary {
+        entries,
+        used,
+        end: End::Refused(refusal),
+        due,
+    }
+}
+
 // Reads frames into entries of 18 bytes each, from a state on.
 pub fn read_from(bits: &[u8], entries: &mut [u8], due: Due) -> Summary
     ensures { λ r.
@@ -199,22 +211,12 @@ pub fn read_from(bits: &[u8], entries: &mut [u8], due: Due) -> Summary
     while used < bits.len() {
         let from = count * ENTRY_SIZE;
         if entries.len() - from < ENTRY_SIZE {
-            return Summary {
-                entries: count,
-                used,
-                end: End::Refused(Refusal::EntrySpace),
-                due: next,
-            };
+            return stopped(count, used, Refusal::EntrySpace, next);
         }
         let answer = reader::read_next(&bits[used..], false, next);
         match answer {
             FrameAnswer::Refused(refusal) => {
-                return Summary {
-                    entries: count,
-                    used,
-                    end: End::Refused(refusal),
-                    due: next,
-                };
+                return stopped(count, used, refusal, next);
             }
             FrameAnswer::Read(state, fields) => {
                 put_entry(state, fields, &mut entries[from..]);

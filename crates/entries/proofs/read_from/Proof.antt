@@ -145,14 +145,17 @@ mul-from c = omega arith
 sub-if1 : tie.Need-sub-if1 Inv-loop μ-loop
 sub-if1 c = omega arith
 
+stopped-requires : tie.Need-stopped-requires Inv-loop μ-loop
+stopped-requires c κs = search needs
+
 same-length : tie.Need-same-length Inv-loop μ-loop
-same-length c = c .before .before .loop .inv .2
+same-length c = c .before .before .before .loop .inv .2
 
 returns : tie.Need-returns Inv-loop μ-loop
 returns c =
-    let a = c .before .before in
-    let e : slots a ≡ 0 = omega (arith, c .if1 .taken) in
-    stopped-at a 5 (rw e (no-space (a .loop .next) (rest a) (some (c .before))))
+    let a = c .before .before .before in
+    let e : slots a ≡ 0 = omega (arith, c .before .if1 .taken) in
+    rw (c .stopped .ensures) (stopped-at a 5 (rw e (no-space (a .loop .next) (rest a) (some (c .before .before)))))
 
 sub-read-next : tie.Need-sub-read-next Inv-loop μ-loop
 sub-read-next c = omega arith
@@ -169,15 +172,19 @@ read-next-requires c κs = search needs
 enum-known-answer : tie.Need-enum-known-answer Inv-loop μ-loop
 enum-known-answer c = search needs
 
+stopped-requires-2 : tie.Need-stopped-requires-2 Inv-loop μ-loop
+stopped-requires-2 c κs = search needs
+
 same-length-2 : tie.Need-same-length-2 Inv-loop μ-loop
-same-length-2 c = a (c .before .before .before) .loop .inv .2
+same-length-2 c = a (c .before .before .before .before) .loop .inv .2
 
 returns-2 : tie.Need-returns-2 Inv-loop μ-loop
 returns-2 c =
-    let r = c .before .before .before in
-    let n = refusalNumber (c .before .answer .given .0 .0) in
-    stopped-at (a r) n
-    (rw (one-slot r) (frame-refused (fewer r) (a r .loop .next) (rest (a r)) (some (r .before .before .before)) n (sym (answer-is r) ∙ ap frameNumbers (c .before .answer .given .1))))
+    let r = c .before .before .before .before in
+    let n = refusalNumber (c .before .before .answer .given .0 .0) in
+    rw (c .stopped2 .ensures)
+    (stopped-at (a r) n
+    (rw (one-slot r) (frame-refused (fewer r) (a r .loop .next) (rest (a r)) (some (r .before .before .before)) n (sym (answer-is r) ∙ ap frameNumbers (c .before .before .answer .given .1)))))
 
 enum-known-answer-2 : tie.Need-enum-known-answer-2 Inv-loop μ-loop
 enum-known-answer-2 c = search needs
@@ -206,8 +213,8 @@ add-count c = omega arith
 leap-after-time-requires : tie.Need-leap-after-time-requires Inv-loop μ-loop
 leap-after-time-requires c κs = search needs
 
-add-t29 : tie.Need-add-t29 Inv-loop μ-loop
-add-t29 c =
+add-t27 : tie.Need-add-t27 Inv-loop μ-loop
+add-t27 c =
     let k = c .before .before .before .before .before .before .before in
     omega (arith, fine (rt k) (et k) (time-is k) .minute-in)
 
@@ -252,9 +259,9 @@ leap-read-requires c κs = search needs
 leap-after-requires : tie.Need-leap-after-requires Inv-loop μ-loop
 leap-after-requires c κs = search needs
 
-add-t36 : tie.Need-add-t36 Inv-loop μ-loop
+add-t34 : tie.Need-add-t34 Inv-loop μ-loop
 unfolding messageEntry
-add-t36 c =
+add-t34 c =
     let k = c .before .before .before .before .before .before .before .before in
     omega (arith, fine (rm k) (em k) (message-is k) .minute-in)
 
@@ -289,6 +296,7 @@ read-from-spec =
     loop-holds
     mul-from
     sub-if1
+    stopped-requires
     same-length
     returns
     sub-read-next
@@ -296,6 +304,7 @@ read-from-spec =
     part-read-next-end
     read-next-requires
     enum-known-answer
+    stopped-requires-2
     same-length-2
     returns-2
     enum-known-answer-2
@@ -307,7 +316,7 @@ read-from-spec =
     add-used
     add-count
     leap-after-time-requires
-    add-t29
+    add-t27
     loop-less
     loop-again
     enum-known-answer-3
@@ -320,7 +329,7 @@ read-from-spec =
     add-count-2
     leap-read-requires
     leap-after-requires
-    add-t36
+    add-t34
     loop-less-2
     loop-again-2
     same-length-3
