@@ -9,10 +9,10 @@ ghost use Rattle.codewords.specs.CodeWords.{leapNumber};
 ghost use Rattle.format.specs.Entry.{entrySize, entryBytes};
 ghost use Rattle.format.specs.Message.{messageEntry};
 ghost use Rattle.format.specs.Questions.{start, unknown, leapRead};
-ghost use Rattle.format.specs.Next.{readOne, oneDue};
+ghost use Rattle.format.specs.Next.{readEntry, oneOutcome, readOne, oneDue};
 ghost use Rattle.frame.specs.Answer.{entryFrom};
 ghost use Rattle.sequence.specs.Reading.{readFrom, dueFrom, readInto};
-ghost use Rattle.entries.specs.Answer.{endNumber, endOutcome, summaryOutcome};
+ghost use Rattle.entries.specs.Answer.{stepNumbers, progress, endNumber, endOutcome, summaryOutcome};
 use calendar::Date;
 use codewords::State;
 use format::Due;
@@ -148,6 +148,39 @@ fn leap_after_time(minute: u32, state: State) -> u8
     leap_after(minute, codewords::leap_number(leap))
 }
 
+// What the step of reading came to: the bits of the frame and the state after it, or the refusal.
+enum Step {
+    Taken(u8, Due),
+    Refused(Refusal),
+}
+
+// The step of reading: the next frame in a state, alone or of a recording, to the front of out as an entry of 18 bytes.
+fn read_entry(bits: &[u8], alone: bool, due: Due, out: &mut [u8]) -> Step
+    ensures { λ r.
+        ⌜ (stepNumbers r
+        ≡ progress due (readEntry due alone (length (now (out .entry))) (now (bits .entry))))
+        × (now (out .exit)
+        ≡ oneOutcome (now (out .entry)) (readEntry due alone (length (now (out .entry))) (now (bits .entry))) .buffer) ⌝ }
+{
+    if out.len() < ENTRY_SIZE {
+        return Step::Refused(Refusal::EntrySpace);
+    }
+    let answer = reader::read_next(bits, alone, due);
+    match answer {
+        FrameAnswer::Refused(refusal) => Step::Refused(refusal),
+        FrameAnswer::Read(state, fields) => {
+            put_entry(state, fields, out);
+            let leap = leap_after_time(fields.minute, state);
+            Step::Taken(fields.length, Due::Minute(fields.minute + 1, leap))
+        }
+        FrameAnswer::Message(told) => {
+            put_message(told, out);
+            let leap = leap_after(told.minute, leap_read(due));
+            Step::Taken(told.length, Due::Minute(told.minute + 1, leap))
+        }
+    }
+}
+
 // Reads one frame alone in a state into an entry of 18 bytes.
 pub fn read_one(bits: &[u8], entry: &mut [u8], due: Due) -> One
     ensures { λ r.
@@ -155,46 +188,16 @@ pub fn read_one(bits: &[u8], entry: &mut [u8], due: Due) -> One
         ≡ readOne due (now (entry .entry)) (now (bits .entry)))
         × (r .due ≡ oneDue due (now (entry .entry)) (now (bits .entry))) ⌝ }
 {
-    if entry.len() < ENTRY_SIZE {
-        return One {
-            end: End::Refused(Refusal::EntrySpace),
-            due,
-        };
-    }
-    let answer = reader::read_next(bits, true, due);
-    match answer {
-        FrameAnswer::Refused(refusal) => One {
+    let step = read_entry(bits, true, due, entry);
+    match step {
+        Step::Refused(refusal) => One {
             end: End::Refused(refusal),
             due,
         },
-        FrameAnswer::Read(state, fields) => {
-            put_entry(state, fields, entry);
-            let leap = leap_after_time(fields.minute, state);
-            One {
-                end: End::Complete,
-                due: Due::Minute(fields.minute + 1, leap),
-            }
-        }
-        FrameAnswer::Message(told) => {
-            put_message(told, entry);
-            let leap = leap_after(told.minute, leap_read(due));
-            One {
-                end: End::Complete,
-                due: Due::Minute(told.minute + 1, leap),
-            }
-        }
-    }
-}
-
-// The summary of a reading that a refusal stops.
-fn stopped(entries: usize, used: usize, refusal: Refusal, due: Due) -> Summary
-    ensures { λ r. ⌜ r ≡ record { entries = entries; used = used; end = End.Refused refusal; due = due } ⌝ }
-{
-    Summary {
-        entries,
-        used,
-        end: End::Refused(refusal),
-        due,
+        Step::Taken(length, next) => One {
+            end: End::Complete,
+            due: next,
+        },
     }
 }
 
@@ -210,27 +213,20 @@ pub fn read_from(bits: &[u8], entries: &mut [u8], due: Due) -> Summary
     let mut next = due;
     while used < bits.len() {
         let from = count * ENTRY_SIZE;
-        if entries.len() - from < ENTRY_SIZE {
-            return stopped(count, used, Refusal::EntrySpace, next);
-        }
-        let answer = reader::read_next(&bits[used..], false, next);
-        match answer {
-            FrameAnswer::Refused(refusal) => {
-                return stopped(count, used, refusal, next);
+        let step = read_entry(&bits[used..], false, next, &mut entries[from..]);
+        match step {
+            Step::Refused(refusal) => {
+                return Summary {
+                    entries: count,
+                    used,
+                    end: End::Refused(refusal),
+                    due: next,
+                };
             }
-            FrameAnswer::Read(state, fields) => {
-                put_entry(state, fields, &mut entries[from..]);
-                used += fields.length as usize;
+            Step::Taken(length, after) => {
+                used += length as usize;
                 count += 1;
-                let leap = leap_after_time(fields.minute, state);
-                next = Due::Minute(fields.minute + 1, leap);
-            }
-            FrameAnswer::Message(told) => {
-                put_message(told, &mut entries[from..]);
-                used += told.length as usize;
-                count += 1;
-                let leap = leap_after(told.minute, leap_read(next));
-                next = Due::Minute(told.minute + 1, leap);
+                next = after;
             }
         }
     }

@@ -56,6 +56,10 @@ module _ (s : List ℕ) (k : ℕ) where
 
 -- ---- question 1, by the number of bytes
 
+pub no-bytes : (s : List ℕ) → length s ≡ 0 → legalMessages (messagesIn s) ≡ true
+unfolding legalMessages messagesIn messageCount messagesFrom rising
+no-bytes s h = rw h
+
 module _ (s : List ℕ) where
   pub not-whole : (length s % messageSize ≡ 0 → ⊥) → legalMessages (messagesIn s) ≡ false
   unfolding legalMessages messagesIn messageCount

@@ -1,11 +1,12 @@
-// Messages as bytes: ten for each, its minute and its data.
+// Messages as bytes: ten for each, its minute and its data; and question 1 of a plan with them.
 ghost use mathlib.Core.Path.{_≡_};
 ghost use Prim.Native.Nat.{_+_, _*_, _/_, _%_, _≤_, _<_};
 ghost use lib.ListN.{length};
-ghost use Rattle.messages.specs.Message.{legalMessages};
-ghost use Rattle.messages.specs.Bytes.{messageSize, bigEndian, messageAt, messagesIn};
+ghost use Rattle.messages.specs.Message.{legalMessages, legalSchedule};
+ghost use Rattle.messages.specs.Bytes.{messageSize, bigEndian, messageAt, messagesIn, scheduleOf};
 ghost use Rattle.messages.specs.Walk.{remaining, nextMinute, allFrom};
 use calendar::Date;
+use plan::Plan;
 
 // The bytes of a message.
 const SIZE: usize = 10;
@@ -55,10 +56,13 @@ pub fn payload_at(bytes: &[u8], k: usize) -> u64
     (high * 65536 + middle) * 65536 + low
 }
 
-// Question 1 of the messages.
-pub fn is_legal(bytes: &[u8]) -> bool
+// What question 1 asks of the messages. Most plans have none.
+fn are_legal(bytes: &[u8]) -> bool
     ensures { λ r. ⌜ r ≡ legalMessages (messagesIn (now (bytes .entry))) ⌝ }
 {
+    if bytes.len() == 0 {
+        return true;
+    }
     if bytes.len() % SIZE != 0 {
         return false;
     }
@@ -85,12 +89,22 @@ pub fn is_legal(bytes: &[u8]) -> bool
     true
 }
 
+// Question 1 of a plan with its messages.
+pub fn is_legal(plan: Plan, bytes: &[u8]) -> bool
+    ensures { λ r. ⌜ r ≡ legalSchedule (scheduleOf plan (now (bytes .entry))) ⌝ }
+{
+    if plan.is_legal() {
+        return are_legal(bytes);
+    }
+    false
+}
+
 // The minute of message k, or the end of the range where there is none.
 pub fn next_minute(bytes: &[u8], k: usize) -> u32
-    requires { ⌜ k ≤ length (now bytes) / messageSize ⌝ }
+    requires { ⌜ (length (now bytes) % messageSize ≡ 0) × (k ≤ length (now bytes) / messageSize) ⌝ }
     ensures { λ r. ⌜ r ≡ nextMinute (allFrom (now (bytes .entry)) k) ⌝ }
 {
-    if k < bytes.len() / SIZE {
+    if k * SIZE < bytes.len() {
         return minute_at(bytes, k);
     }
     Date::MINUTES
@@ -101,9 +115,8 @@ pub fn first_from(bytes: &[u8], minute: u32) -> usize
     requires { ⌜ length (now bytes) % messageSize ≡ 0 ⌝ }
     ensures { λ r. ⌜ (r ≤ length (now (bytes .entry)) / messageSize) × (allFrom (now (bytes .entry)) r ≡ remaining minute (messagesIn (now (bytes .entry)))) ⌝ }
 {
-    let count = bytes.len() / SIZE;
     let mut k: usize = 0;
-    while k < count {
+    while k * SIZE < bytes.len() {
         if minute <= minute_at(bytes, k) {
             return k;
         }

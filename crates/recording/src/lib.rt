@@ -150,10 +150,7 @@ pub fn write_recording(
         × (now (out .exit)
         ≡ bufferWritten (scheduleOf plan (now (messages .entry))) first count (now (out .entry))) ⌝ }
 {
-    if !plan.is_legal() {
-        return WriteAnswer::Refused(WriteRefusal::IllegalPlan);
-    }
-    if !messages::is_legal(messages) {
+    if !messages::is_legal(plan, messages) {
         return WriteAnswer::Refused(WriteRefusal::IllegalPlan);
     }
     if count < 1 {

@@ -9,23 +9,29 @@ use mathlib.Core.List.{List, [], _++_}
 use native.Mathlib.Nat.{sub-zero}
 use lib.ListN.{length, take, drop, length-drop, drop-of-length-le}
 use Rattle.format.specs.Entry.{Entry, entrySize, entryBytes}
-use Rattle.format.specs.Message.{messageEntry}
 use Rattle.format.specs.Questions.{after}
-use Rattle.format.specs.Next.{entry, readNext}
+use Rattle.format.specs.Next.{Answer, refused, entry, readNext, readEntry, oneOutcome}
 use Rattle.format.specs.declared.Due.{Due}
-use Rattle.frame.specs.declared.Told.{Told}
-use Rattle.frame.specs.Answer.{refusalNumber, entryFrom, frameNumbers}
+use Rattle.frame.specs.Answer.{refusalNumber}
 use Rattle.format.proofs.Accepted.{Accepted, accepted}
+use Rattle.format.proofs.One.{yes-5}
 use Rattle.sequence.specs.Reading.{stop, readFrames, readFrom, dueFrom, Outcome}
 use Rattle.sequence.proofs.Resume.{resume, resume-none, resume-stop}
-use Rattle.sequence.proofs.Steps.{ended, no-space, frame-refused}
+use Rattle.sequence.proofs.Steps.{ended}
 use Rattle.sequence.proofs.Tails.{tail}
-use Rattle.entries.proofs.Turn.{put-length, turn, turn-due, after-time, after-message}
+use Rattle.entries.specs.Answer.{progress, stepNumbers}
+use Rattle.entries.proofs.Progress.{halted, Advanced, advanced, room-of, refused-step}
+use Rattle.entries.proofs.Turn.{same-back, put-length, turn, turn-due}
 use Rattle.entries.proofs.read_from.Statement.{statement}
 use Rattle.entries.proofs.read_from.Tie as tie
 
 abbrev Inv-loop : tie.InvT-loop
-Inv-loop bits entries₀ used₀ count₀ next₀ entries used count next = (used ≤ length bits) × (count * entrySize ≤ length entries₀) × (length entries ≡ length entries₀) × (resume count used entries (readFrames (length entries₀ / entrySize - count) next (drop used bits)) ≡ readFrom next₀ entries₀ bits) × (readFrames (length entries₀ / entrySize - count) next (drop used bits) .due ≡ dueFrom next₀ entries₀ bits)
+Inv-loop bits entries₀ used₀ count₀ next₀ entries used count next =
+    (used ≤ length bits)
+    × (count * entrySize ≤ length entries₀)
+    × (length entries ≡ length entries₀)
+    × (resume count used entries (readFrames (length entries₀ / entrySize - count) next (drop used bits)) ≡ readFrom next₀ entries₀ bits)
+    × (readFrames (length entries₀ / entrySize - count) next (drop used bits) .due ≡ dueFrom next₀ entries₀ bits)
 
 abbrev μ-loop : tie.MeasureT-loop
 μ-loop bits entries₀ used₀ count₀ next₀ entries used count next = length bits - used
@@ -47,91 +53,123 @@ module _ (a : tie.At-loop Inv-loop μ-loop) where
   abbrev slots : ℕ
   slots = length buffer / entrySize - a .loop .count
 
+  abbrev from : ℕ
+  from = a .loop .count * entrySize
+
+  -- the entry bytes that are lent, and the step's answer
+  abbrev part : List ℕ
+  part = take (length (a .loop .entries) - from) (drop from (a .loop .entries))
+
+  abbrev answer : Answer
+  answer = readEntry (a .loop .next) false (length part) rest
+
+  part-length : length part ≡ length buffer - from
+  part-length = rw (tail (a .loop .entries) from) (omega (arith, length-drop from (a .loop .entries), a .loop .inv .2))
+
+  free-slots : length part / entrySize ≡ slots
+  free-slots = omega (arith, part-length, a .loop .inv .1)
+
   -- where what is left finds nothing more, the outcome is what is there
-  stopped-at : (n : ℕ) → readFrames slots (a .loop .next) rest ≡ stop (a .loop .next) n
-      → (_≡_ {A = Outcome} (record { count = a .loop .count; used = a .loop .used; refusal = n; buffer = a .loop .entries }) (readFrom first buffer bits)) × (a .loop .next ≡ dueFrom first buffer bits)
+  stopped-at : (n : ℕ) (later : List ℕ) → later ≡ a .loop .entries → readFrames slots (a .loop .next) rest ≡ stop (a .loop .next) n
+      → (_≡_ {A = Outcome} (record { count = a .loop .count; used = a .loop .used; refusal = n; buffer = later }) (readFrom first buffer bits)) × (a .loop .next ≡ dueFrom first buffer bits)
   unfolding stop
-  stopped-at n e = (
-    sym (resume-stop (a .loop .count) (a .loop .used) (a .loop .entries) (a .loop .next) n)
+  stopped-at n later same e = (
+    rw same
+        (sym (resume-stop (a .loop .count) (a .loop .used) (a .loop .entries) (a .loop .next) n)
         ∙ ap (resume (a .loop .count) (a .loop .used) (a .loop .entries)) (sym e)
-        ∙ a .loop .inv .3,
+        ∙ a .loop .inv .3),
     rw e at (a .loop .inv .4),
   )
 
 some : (c : tie.In-loop Inv-loop μ-loop) → 0 < length (rest (c .before))
 some c = omega (arith, length-drop (c .before .loop .used) (bits (c .before)))
 
--- where a frame is read
-module _ (r : tie.After-read-next Inv-loop μ-loop) where
+-- after the step
+module _ (r : tie.After-read-entry Inv-loop μ-loop) where
   abbrev a : tie.At-loop Inv-loop μ-loop
   a = r .before .before .before .before
 
-  abbrev fewer : ℕ
-  fewer = length (buffer a) / entrySize - (a .loop .count + 1)
+  progress-is : stepNumbers (r .read-entry .result) ≡ progress (a .loop .next) (answer a)
+  progress-is =
+      r .read-entry .ensures .0
+      ∙ ap (λ (f : List ℕ). progress (a .loop .next) (readEntry (a .loop .next) false (length (part a)) f)) (tail (bits a) (a .loop .used))
 
-  one-slot : slots a ≡ suc fewer
-  one-slot = omega (arith, r .before .before .if1 .left)
+  -- the entry bytes when they come back
+  abbrev later : List ℕ
+  later = r .read-entry .last .1 .1 .1 .0
 
-  answer-is : frameNumbers (r .read-next .result) ≡ readNext (a .loop .next) false (rest a)
-  answer-is = r .read-next .ensures ∙ ap (readNext (a .loop .next) false) (tail (bits a) (a .loop .used))
+  later-is : later ≡ oneOutcome (part a) (answer a) .buffer
+  later-is =
+      r .read-entry .ensures .1
+      ∙ ap (λ (f : List ℕ). oneOutcome (part a) (readEntry (a .loop .next) false (length (part a)) f) .buffer) (tail (bits a) (a .loop .used))
 
-  room : a .loop .count * entrySize + entrySize ≤ length (a .loop .entries)
-  room = omega (arith, r .before .before .if1 .left)
+-- where the step was refused
+module _ (k : tie.After-known-told Inv-loop μ-loop) where
+  abbrev rh : tie.After-read-entry Inv-loop μ-loop
+  rh = k .before .before .before .before .before
 
--- where it is accepted, with the entry e
-module _ (r : tie.After-read-next Inv-loop μ-loop) (e : Entry) (entry-is : readNext (a r .loop .next) false (rest (a r)) ≡ entry e) where
+  abbrev question : ℕ
+  question = refusalNumber (k .before .step .given .0 .0)
+
+  refused-is : answer (a rh) ≡ refused question
+  refused-is = halted (a rh .loop .next) (answer (a rh)) question (sym (ap stepNumbers (k .before .step .given .1)) ∙ progress-is rh)
+
+  kept : take (from (a rh)) (a rh .loop .entries) ++ (later rh ++ drop (length (a rh .loop .entries) - from (a rh)) (drop (from (a rh)) (a rh .loop .entries))) ≡ a rh .loop .entries
+  unfolding oneOutcome
+  kept = same-back (a rh .loop .entries) (later rh) (from (a rh)) (rw refused-is at (later-is rh))
+
+-- where the frame is accepted, with the entry e
+module _ (r : tie.After-read-entry Inv-loop μ-loop) (e : Entry) (is : answer (a r) ≡ entry e) where
+  free : entrySize ≤ length (part (a r))
+  free = room-of (length (part (a r))) (a r .loop .next) (rest (a r)) e is
+
+  room : from (a r) + entrySize ≤ length (a r .loop .entries)
+  room = omega (arith, free, part-length (a r), a r .loop .inv .2)
+
+  entry-is : readNext (a r .loop .next) false (rest (a r)) ≡ entry e
+  entry-is = sym (yes-5 (a r .loop .next) false (length (part (a r))) (rest (a r)) free) ∙ is
+
   fine : Accepted (rest (a r)) e
   fine = accepted (a r .loop .next) false (rest (a r)) e entry-is
 
   left : a r .loop .used + e .seconds ≤ length (bits (a r))
   left = omega (arith, fine .enough-left, length-drop (a r .loop .used) (bits (a r)), a r .loop .inv .0)
 
-  part-room : entrySize ≤ length (take (length (a r .loop .entries) - a r .loop .count * entrySize) (drop (a r .loop .count * entrySize) (a r .loop .entries)))
-  part-room =
-      let b = a r .loop in
-      rw (tail (b .entries) (b .count * entrySize)) (omega (arith, room r, length-drop (b .count * entrySize) (b .entries)))
+  abbrev fewer : ℕ
+  fewer = length (buffer (a r)) / entrySize - (a r .loop .count + 1)
 
-  -- the buffer when the part comes back as ys, and what is left to read in the state d
-  again : (d : Due) → d ≡ after (a r .loop .next) e → (ys : List ℕ)
-      → ys ≡ entryBytes e ++ drop entrySize (take (length (a r .loop .entries) - a r .loop .count * entrySize) (drop (a r .loop .count * entrySize) (a r .loop .entries)))
+  one-slot : slots (a r) ≡ suc fewer
+  one-slot = omega (arith, room, a r .loop .inv .2)
+
+  put-is : (ys : List ℕ) → ys ≡ oneOutcome (part (a r)) (answer (a r)) .buffer → ys ≡ entryBytes e ++ drop entrySize (part (a r))
+  unfolding oneOutcome
+  put-is ys h = rw is at h
+
+  -- the buffer when the part comes back as ys, and what is left to read after n bits in the state d
+  again : (n : ℕ) → n ≡ e .seconds → (d : Due) → d ≡ after (a r .loop .next) e → (ys : List ℕ) → ys ≡ oneOutcome (part (a r)) (answer (a r)) .buffer
       → Inv-loop (bits (a r)) (buffer (a r)) 0 0 (first (a r))
-      (take (a r .loop .count * entrySize) (a r .loop .entries) ++ (ys ++ drop (length (a r .loop .entries) - a r .loop .count * entrySize) (drop (a r .loop .count * entrySize) (a r .loop .entries))))
-      (a r .loop .used + e .seconds) (a r .loop .count + 1) d
-  again d ed ys h = (
-    left,
-    omega (arith, room r, a r .loop .inv .2),
-    put-length (a r .loop .entries) ys (a r .loop .count * entrySize) e (room r) h ∙ a r .loop .inv .2,
-    turn (fewer r) (a r .loop .count) (a r .loop .used) (a r .loop .next) d (bits (a r)) (a r .loop .entries) ys e (readFrom (first (a r)) (buffer (a r)) (bits (a r)))
-        ed (some (r .before .before .before)) entry-is (room r) h
-        (ap (λ (n : ℕ). resume (a r .loop .count) (a r .loop .used) (a r .loop .entries) (readFrames n (a r .loop .next) (rest (a r)))) (sym (one-slot r)) ∙ a r .loop .inv .3),
-    turn-due (fewer r) (a r .loop .used) (a r .loop .next) d (dueFrom (first (a r)) (buffer (a r)) (bits (a r))) (bits (a r)) e ed
-        (some (r .before .before .before)) entry-is (rw (one-slot r) at (a r .loop .inv .4)),
+      (take (from (a r)) (a r .loop .entries) ++ (ys ++ drop (length (a r .loop .entries) - from (a r)) (drop (from (a r)) (a r .loop .entries))))
+      (a r .loop .used + n) (a r .loop .count + 1) d
+  again n en d ed ys h = (
+    rw en left,
+    omega (arith, room, a r .loop .inv .2),
+    put-length (a r .loop .entries) ys (from (a r)) e room (put-is ys h) ∙ a r .loop .inv .2,
+    turn fewer (a r .loop .count) (a r .loop .used) n (a r .loop .next) d (bits (a r)) (a r .loop .entries) ys e (readFrom (first (a r)) (buffer (a r)) (bits (a r)))
+        en ed (some (r .before .before .before)) entry-is room (put-is ys h)
+        (ap (λ (s : ℕ). resume (a r .loop .count) (a r .loop .used) (a r .loop .entries) (readFrames s (a r .loop .next) (rest (a r)))) (sym one-slot) ∙ a r .loop .inv .3),
+    turn-due fewer (a r .loop .used) n (a r .loop .next) d (dueFrom (first (a r)) (buffer (a r)) (bits (a r))) (bits (a r)) e en ed
+        (some (r .before .before .before)) entry-is (rw one-slot at (a r .loop .inv .4)),
   )
 
--- where it is a time frame
+-- where the step took a frame
 module _ (k : tie.After-known-told2 Inv-loop μ-loop) where
-  abbrev rt : tie.After-read-next Inv-loop μ-loop
-  rt = k .before .before .before
+  abbrev rk : tie.After-read-entry Inv-loop μ-loop
+  rk = k .before .before .before .before .before
 
-  abbrev et : Entry
-  et = entryFrom (k .before .answer2 .given .0 .0) (k .before .answer2 .given .0 .1 .0)
-
-  time-is : readNext (a rt .loop .next) false (rest (a rt)) ≡ entry et
-  time-is = sym (answer-is rt) ∙ ap frameNumbers (k .before .answer2 .given .1)
-
--- where it is a message
-module _ (k : tie.After-known-told3 Inv-loop μ-loop) where
-  abbrev rm : tie.After-read-next Inv-loop μ-loop
-  rm = k .before .before .before
-
-  abbrev told : Told
-  told = k .before .answer3 .given .0 .0
-
-  abbrev em : Entry
-  em = messageEntry (told .minute) (told .length) (told .notice) (told .payload)
-
-  message-is : readNext (a rm .loop .next) false (rest (a rm)) ≡ entry em
-  message-is = sym (answer-is rm) ∙ ap frameNumbers (k .before .answer3 .given .1)
+  went : Advanced (a rk .loop .next) (answer (a rk)) (k .before .step2 .given .0 .0) (k .before .step2 .given .0 .1 .0)
+  went =
+      advanced (a rk .loop .next) (answer (a rk)) (k .before .step2 .given .0 .0) (k .before .step2 .given .0 .1 .0)
+      (sym (ap stepNumbers (k .before .step2 .given .1)) ∙ progress-is rk)
 
 loop-holds : tie.Need-loop-holds Inv-loop μ-loop
 unfolding readFrom dueFrom
@@ -142,150 +180,65 @@ loop-holds c =
 mul-from : tie.Need-mul-from Inv-loop μ-loop
 mul-from c = omega arith
 
-sub-if1 : tie.Need-sub-if1 Inv-loop μ-loop
-sub-if1 c = omega arith
+sub-read-entry : tie.Need-sub-read-entry Inv-loop μ-loop
+sub-read-entry c = omega arith
 
-stopped-requires : tie.Need-stopped-requires Inv-loop μ-loop
-stopped-requires c κs = search needs
+part-read-entry-start : tie.Need-part-read-entry-start Inv-loop μ-loop
+part-read-entry-start c = omega arith
+
+part-read-entry-end : tie.Need-part-read-entry-end Inv-loop μ-loop
+part-read-entry-end c = omega arith
+
+sub-read-entry-2 : tie.Need-sub-read-entry-2 Inv-loop μ-loop
+sub-read-entry-2 c = omega arith
+
+part-read-entry-start-2 : tie.Need-part-read-entry-start-2 Inv-loop μ-loop
+part-read-entry-start-2 c = omega arith
+
+part-read-entry-end-2 : tie.Need-part-read-entry-end-2 Inv-loop μ-loop
+part-read-entry-end-2 c = omega arith
+
+read-entry-requires : tie.Need-read-entry-requires Inv-loop μ-loop
+read-entry-requires c κs = search needs
+
+enum-known-step : tie.Need-enum-known-step Inv-loop μ-loop
+enum-known-step c = search needs
 
 same-length : tie.Need-same-length Inv-loop μ-loop
-same-length c = c .before .before .before .loop .inv .2
+same-length c = ap length (kept c) ∙ a (rh c) .loop .inv .2
 
 returns : tie.Need-returns Inv-loop μ-loop
 returns c =
-    let a = c .before .before .before in
-    let e : slots a ≡ 0 = omega (arith, c .before .if1 .taken) in
-    rw (c .stopped .ensures) (stopped-at a 5 (rw e (no-space (a .loop .next) (rest a) (some (c .before .before)))))
+    let b = a (rh c) in
+    stopped-at b (question c) _ (kept c)
+    (rw (← free-slots b) (refused-step (length (part b)) (b .loop .next) (rest b) (some (rh c .before .before .before)) (question c) (refused-is c)))
 
-sub-read-next : tie.Need-sub-read-next Inv-loop μ-loop
-sub-read-next c = omega arith
-
-part-read-next-start : tie.Need-part-read-next-start Inv-loop μ-loop
-part-read-next-start c = omega arith
-
-part-read-next-end : tie.Need-part-read-next-end Inv-loop μ-loop
-part-read-next-end c = omega arith
-
-read-next-requires : tie.Need-read-next-requires Inv-loop μ-loop
-read-next-requires c κs = search needs
-
-enum-known-answer : tie.Need-enum-known-answer Inv-loop μ-loop
-enum-known-answer c = search needs
-
-stopped-requires-2 : tie.Need-stopped-requires-2 Inv-loop μ-loop
-stopped-requires-2 c κs = search needs
-
-same-length-2 : tie.Need-same-length-2 Inv-loop μ-loop
-same-length-2 c = a (c .before .before .before .before) .loop .inv .2
-
-returns-2 : tie.Need-returns-2 Inv-loop μ-loop
-returns-2 c =
-    let r = c .before .before .before .before in
-    let n = refusalNumber (c .before .before .answer .given .0 .0) in
-    rw (c .stopped2 .ensures)
-    (stopped-at (a r) n
-    (rw (one-slot r) (frame-refused (fewer r) (a r .loop .next) (rest (a r)) (some (r .before .before .before)) n (sym (answer-is r) ∙ ap frameNumbers (c .before .before .answer .given .1)))))
-
-enum-known-answer-2 : tie.Need-enum-known-answer-2 Inv-loop μ-loop
-enum-known-answer-2 c = search needs
-
-sub-put-entry : tie.Need-sub-put-entry Inv-loop μ-loop
-sub-put-entry c = omega arith
-
-part-put-entry-start : tie.Need-part-put-entry-start Inv-loop μ-loop
-part-put-entry-start c = omega arith
-
-part-put-entry-end : tie.Need-part-put-entry-end Inv-loop μ-loop
-part-put-entry-end c = omega arith
-
-put-entry-requires : tie.Need-put-entry-requires Inv-loop μ-loop
-put-entry-requires c κs = let k = c .before in part-room (rt k) (et k) (time-is k)
+enum-known-step-2 : tie.Need-enum-known-step-2 Inv-loop μ-loop
+enum-known-step-2 c = search needs
 
 cast-used : tie.Need-cast-used Inv-loop μ-loop
 cast-used c = search needs
 
 add-used : tie.Need-add-used Inv-loop μ-loop
-add-used c = omega (arith, left (rt (c .before .before .before .before .before)) (et (c .before .before .before .before .before)) (time-is (c .before .before .before .before .before)))
+add-used c = omega (arith, went c .bits, left (rk c) (went c .taken) (went c .is))
 
 add-count : tie.Need-add-count Inv-loop μ-loop
 add-count c = omega arith
 
-leap-after-time-requires : tie.Need-leap-after-time-requires Inv-loop μ-loop
-leap-after-time-requires c κs = search needs
-
-add-t27 : tie.Need-add-t27 Inv-loop μ-loop
-add-t27 c =
-    let k = c .before .before .before .before .before .before .before in
-    omega (arith, fine (rt k) (et k) (time-is k) .minute-in)
-
 loop-less : tie.Need-loop-less Inv-loop μ-loop
-loop-less c =
-    let k = c .before .before .before .before .before .before .before in
-    omega (arith, left (rt k) (et k) (time-is k), fine (rt k) (et k) (time-is k) .long)
+loop-less c = omega (arith, went c .bits, left (rk c) (went c .taken) (went c .is), fine (rk c) (went c .taken) (went c .is) .long)
 
 loop-again : tie.Need-loop-again Inv-loop μ-loop
-loop-again c =
-    let k = c .before .before .before .before .before .before .before in
-    let put = c .before .before .before .before .before .put-entry in
-    again (rt k) (et k) (time-is k) _ (after-time (a (rt k) .loop .next) (k .before .answer2 .given .0 .0) (k .before .answer2 .given .0 .1 .0) _ (c .before .leap-after-time .ensures)) (put .last .1 .1 .0) (put .ensures)
+loop-again c = again (rk c) (went c .taken) (went c .is) _ (went c .bits) _ (went c .next) (later (rk c)) (later-is (rk c))
 
-enum-known-answer-3 : tie.Need-enum-known-answer-3 Inv-loop μ-loop
-enum-known-answer-3 c = search needs
+same-length-2 : tie.Need-same-length-2 Inv-loop μ-loop
+same-length-2 c = c .before .loop .inv .2
 
-sub-put-message : tie.Need-sub-put-message Inv-loop μ-loop
-sub-put-message c = omega arith
-
-part-put-message-start : tie.Need-part-put-message-start Inv-loop μ-loop
-part-put-message-start c = omega arith
-
-part-put-message-end : tie.Need-part-put-message-end Inv-loop μ-loop
-part-put-message-end c = omega arith
-
-put-message-requires : tie.Need-put-message-requires Inv-loop μ-loop
-put-message-requires c κs = let k = c .before in part-room (rm k) (em k) (message-is k)
-
-cast-used-2 : tie.Need-cast-used-2 Inv-loop μ-loop
-cast-used-2 c = search needs
-
-add-used-2 : tie.Need-add-used-2 Inv-loop μ-loop
-add-used-2 c = omega (arith, left (rm (c .before .before .before .before .before)) (em (c .before .before .before .before .before)) (message-is (c .before .before .before .before .before)))
-
-add-count-2 : tie.Need-add-count-2 Inv-loop μ-loop
-add-count-2 c = omega arith
-
-leap-read-requires : tie.Need-leap-read-requires Inv-loop μ-loop
-leap-read-requires c κs = search needs
-
-leap-after-requires : tie.Need-leap-after-requires Inv-loop μ-loop
-leap-after-requires c κs = search needs
-
-add-t34 : tie.Need-add-t34 Inv-loop μ-loop
-unfolding messageEntry
-add-t34 c =
-    let k = c .before .before .before .before .before .before .before .before in
-    omega (arith, fine (rm k) (em k) (message-is k) .minute-in)
-
-loop-less-2 : tie.Need-loop-less-2 Inv-loop μ-loop
-unfolding messageEntry
-loop-less-2 c =
-    let k = c .before .before .before .before .before .before .before .before in
-    omega (arith, left (rm k) (em k) (message-is k), fine (rm k) (em k) (message-is k) .long)
-
-loop-again-2 : tie.Need-loop-again-2 Inv-loop μ-loop
-unfolding messageEntry
-loop-again-2 c =
-    let k = c .before .before .before .before .before .before .before .before in
-    let put = c .before .before .before .before .before .before .put-message in
-    again (rm k) (em k) (message-is k) _ (after-message (a (rm k) .loop .next) (told k) _ (c .before .leap-after .ensures ∙ rw (c .before .before .leap-read .ensures))) (put .last .1 .0) (put .ensures)
-
-same-length-3 : tie.Need-same-length-3 Inv-loop μ-loop
-same-length-3 c = c .before .loop .inv .2
-
-returns-3 : tie.Need-returns-3 Inv-loop μ-loop
-returns-3 c =
+returns-2 : tie.Need-returns-2 Inv-loop μ-loop
+returns-2 c =
     let a = c .before in
     let e : rest a ≡ [] = drop-of-length-le (bits a) {i = a .loop .used} (c .loop-test .left) in
-    stopped-at a 0 (rw e (ended (slots a) (a .loop .next)))
+    stopped-at a 0 (a .loop .entries) refl (rw e (ended (slots a) (a .loop .next)))
 
 pub read-from-spec : {M : Type 1} → statement M
 read-from-spec =
@@ -295,42 +248,21 @@ read-from-spec =
     μ-loop
     loop-holds
     mul-from
-    sub-if1
-    stopped-requires
+    sub-read-entry
+    part-read-entry-start
+    part-read-entry-end
+    sub-read-entry-2
+    part-read-entry-start-2
+    part-read-entry-end-2
+    read-entry-requires
+    enum-known-step
     same-length
     returns
-    sub-read-next
-    part-read-next-start
-    part-read-next-end
-    read-next-requires
-    enum-known-answer
-    stopped-requires-2
-    same-length-2
-    returns-2
-    enum-known-answer-2
-    sub-put-entry
-    part-put-entry-start
-    part-put-entry-end
-    put-entry-requires
+    enum-known-step-2
     cast-used
     add-used
     add-count
-    leap-after-time-requires
-    add-t27
     loop-less
     loop-again
-    enum-known-answer-3
-    sub-put-message
-    part-put-message-start
-    part-put-message-end
-    put-message-requires
-    cast-used-2
-    add-used-2
-    add-count-2
-    leap-read-requires
-    leap-after-requires
-    add-t34
-    loop-less-2
-    loop-again-2
-    same-length-3
-    returns-3)
+    same-length-2
+    returns-2)

@@ -1,142 +1,70 @@
 -- `entries::read_one` meets its contract.
 -- Assumes nothing.
+use Prim.Native.Nat.{ℕ}
 use mathlib.Core.Bool.{true}
-use mathlib.Core.Path.{_≡_, sym, ap, _∙_}
-use native.Mathlib.Omega.{arith}
+use mathlib.Core.List.{List}
+use mathlib.Core.Path.{_≡_}
 use borrow.Author.Needs.{needs}
-use Rattle.format.specs.Entry.{Entry}
-use Rattle.format.specs.Message.{messageEntry}
-use Rattle.format.specs.Next.{refused, entry, readNext}
-use Rattle.frame.specs.declared.Told.{Told}
-use Rattle.frame.specs.Answer.{refusalNumber, entryFrom, frameNumbers}
-use Rattle.format.proofs.Accepted.{accepted}
-use Rattle.format.proofs.One.{one-no-space, one-refused, one-read}
-use Rattle.entries.proofs.Turn.{after-time, after-message}
+use lib.ListN.{length}
+use Rattle.format.specs.Next.{Answer, readEntry, readOne, oneDue}
+use Rattle.format.specs.declared.Due.{Due}
+use Rattle.frame.specs.Answer.{refusalNumber}
+use Rattle.entries.specs.Answer.{halt, advance, progress}
+use Rattle.entries.proofs.Progress.{one-halted, one-advanced}
 use Rattle.entries.proofs.read_one.Statement.{statement}
 use Rattle.entries.proofs.read_one.Tie as tie
 
--- where the frame is a time frame
-module _ (k : tie.After-known-told2) where
-  abbrev r : tie.After-read-next
-  r = k .before .before .before
+-- after the step
+module _ (r : tie.After-read-entry) where
+  abbrev due : Due
+  due = r .before .before .before .before .args .due
 
-  abbrev z : tie.Start
-  z = r .before .before .before .before
+  abbrev buffer : List ℕ
+  buffer = r .before .before .before .before .args .entry .now
 
-  abbrev e : Entry
-  e = entryFrom (k .before .answer2 .given .0 .0) (k .before .answer2 .given .0 .1 .0)
+  abbrev answer : Answer
+  answer = readEntry due true (length buffer) (r .before .before .before .before .args .bits .now)
 
-  entry-is : readNext (z .args .due) true (z .args .bits .now) ≡ entry e
-  entry-is = sym (r .read-next .ensures) ∙ ap frameNumbers (k .before .answer2 .given .1)
+read-entry-requires : tie.Need-read-entry-requires
+read-entry-requires c κs = search needs
 
--- where it is a message
-module _ (k : tie.After-known-told3) where
-  abbrev rm : tie.After-read-next
-  rm = k .before .before .before
+enum-known-step : tie.Need-enum-known-step
+enum-known-step c = search needs
 
-  abbrev zm : tie.Start
-  zm = rm .before .before .before .before
-
-  abbrev told : Told
-  told = k .before .answer3 .given .0 .0
-
-  abbrev em : Entry
-  em = messageEntry (told .minute) (told .length) (told .notice) (told .payload)
-
-  message-is : readNext (zm .args .due) true (zm .args .bits .now) ≡ entry em
-  message-is = sym (rm .read-next .ensures) ∙ ap frameNumbers (k .before .answer3 .given .1)
-
-returns : tie.Need-returns
-returns c =
-    let a = c .before .before .before .args in
-    one-no-space (a .due) (a .entry .now) (a .bits .now) (omega arith)
-
-read-next-requires : tie.Need-read-next-requires
-read-next-requires c κs = search needs
-
-enum-known-answer : tie.Need-enum-known-answer
-enum-known-answer c = search needs
-
-enum-known-answer-2 : tie.Need-enum-known-answer-2
-enum-known-answer-2 c = search needs
-
-put-entry-requires : tie.Need-put-entry-requires
-put-entry-requires c κs = search needs
-
-leap-after-time-requires : tie.Need-leap-after-time-requires
-leap-after-time-requires c κs = search needs
-
-add-t21 : tie.Need-add-t21
-add-t21 c =
-    let k = c .before .before .before .before .before .before in
-    omega (arith, accepted (z k .args .due) true (z k .args .bits .now) (e k) (entry-is k) .minute-in)
-
-enum-known-answer-3 : tie.Need-enum-known-answer-3
-enum-known-answer-3 c = search needs
-
-put-message-requires : tie.Need-put-message-requires
-put-message-requires c κs = search needs
-
-leap-read-requires : tie.Need-leap-read-requires
-leap-read-requires c κs = search needs
-
-leap-after-requires : tie.Need-leap-after-requires
-leap-after-requires c κs = search needs
-
-add-t28 : tie.Need-add-t28
-unfolding messageEntry
-add-t28 c =
-    let k = c .before .before .before .before .before .before .before in
-    omega (arith, accepted (zm k .args .due) true (zm k .args .bits .now) (em k) (message-is k) .minute-in)
-
-returns-2 : tie.Need-returns-2
-returns-2 c =
-    let r = c .before .before .before in
-    let a = r .before .before .before .before .args in
-    let n = refusalNumber (c .before .answer .given .0 .0) in
-    let is : readNext (a .due) true (a .bits .now) ≡ refused n = sym (r .read-next .ensures) ∙ ap frameNumbers (c .before .answer .given .1) in
-    one-refused (a .due) (a .entry .now) (a .bits .now) n (r .before .if1 .left) is
+enum-known-step-2 : tie.Need-enum-known-step-2
+enum-known-step-2 c = search needs
 
 same-length : tie.Need-same-length
 same-length c = search needs
 
-returns-3 : tie.Need-returns-3
-returns-3 c =
-    let k = c .before .before .before .before .before .before in
-    let a = z k .args in
-    let put = c .before .before .before .before .put-entry in
-    one-read (a .due) (a .entry .now) (a .bits .now) (e k) (put .last .1 .1 .0) _ (r k .before .if1 .left) (entry-is k) (put .ensures)
-    (after-time (a .due) (k .before .answer2 .given .0 .0) (k .before .answer2 .given .0 .1 .0) _ (c .before .leap-after-time .ensures))
+returns : tie.Need-returns
+unfolding readOne oneDue
+returns c =
+    let r = c .before .before .before .before .before in
+    let n = refusalNumber (c .before .step .given .0 .0) in
+    let h : halt n ≡ progress (due r) (answer r) = rw (c .before .step .given .1) at (r .read-entry .ensures .0) in
+    one-halted (due r) (buffer r) (r .read-entry .last .1 .1 .1 .0) (answer r) n h (r .read-entry .ensures .1)
 
 same-length-2 : tie.Need-same-length-2
 same-length-2 c = search needs
 
-returns-4 : tie.Need-returns-4
-returns-4 c =
-    let k = c .before .before .before .before .before .before .before in
-    let a = zm k .args in
-    let put = c .before .before .before .before .before .put-message in
-    one-read (a .due) (a .entry .now) (a .bits .now) (em k) (put .last .1 .0) _ (rm k .before .if1 .left) (message-is k) (put .ensures)
-    (after-message (a .due) (told k) _ (c .before .leap-after .ensures ∙ rw (c .before .before .leap-read .ensures)))
+returns-2 : tie.Need-returns-2
+unfolding readOne oneDue
+returns-2 c =
+    let r = c .before .before .before .before .before in
+    let n = c .before .step2 .given .0 .0 in
+    let d = c .before .step2 .given .0 .1 .0 in
+    let h : advance n d ≡ progress (due r) (answer r) = rw (c .before .step2 .given .1) at (r .read-entry .ensures .0) in
+    one-advanced (due r) (buffer r) (r .read-entry .last .1 .1 .1 .0) (answer r) n d h (r .read-entry .ensures .1)
 
 pub read-one-spec : {M : Type 1} → statement M
 read-one-spec =
     tie.close
     (tie.spec
-    returns
-    read-next-requires
-    enum-known-answer
-    enum-known-answer-2
-    put-entry-requires
-    leap-after-time-requires
-    add-t21
-    enum-known-answer-3
-    put-message-requires
-    leap-read-requires
-    leap-after-requires
-    add-t28
-    returns-2
+    read-entry-requires
+    enum-known-step
+    enum-known-step-2
     same-length
-    returns-3
+    returns
     same-length-2
-    returns-4)
+    returns-2)
