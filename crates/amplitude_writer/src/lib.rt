@@ -167,7 +167,10 @@ pub fn write_minute(
         ⌜ (writeNumbers r ≡ writeAmplitude (scheduleOf plan (now (messages .entry))) minute sign tenths (length (now (out .entry))))
         × (now (out .exit) ≡ symbolsWritten (scheduleOf plan (now (messages .entry))) minute sign tenths (now (out .entry))) ⌝ }
 {
-    if !messages::is_legal(plan, messages) {
+    if !plan.is_legal() {
+        return WriteAnswer::Refused(WriteRefusal::IllegalPlan);
+    }
+    if !messages::is_legal(messages) {
         return WriteAnswer::Refused(WriteRefusal::IllegalPlan);
     }
     if Date::MINUTES <= minute {

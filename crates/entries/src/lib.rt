@@ -148,9 +148,11 @@ fn leap_after_time(minute: u32, state: State) -> u8
     leap_after(minute, codewords::leap_number(leap))
 }
 
-// What the step of reading came to: the bits of the frame and the state after it, or the refusal.
+// What the step of reading came to: the bits of the frame, with the minute that is due after it and the leap state last
+// read in the month of that minute, or the refusal. The numbers stand side by side: a Due in their place would be copied
+// through memory for each frame.
 enum Step {
-    Taken(u8, Due),
+    Taken(u8, u32, u8),
     Refused(Refusal),
 }
 
@@ -171,12 +173,14 @@ fn read_entry(bits: &[u8], alone: bool, due: Due, out: &mut [u8]) -> Step
         FrameAnswer::Read(state, fields) => {
             put_entry(state, fields, out);
             let leap = leap_after_time(fields.minute, state);
-            Step::Taken(fields.length, Due::Minute(fields.minute + 1, leap))
+            let next = fields.minute + 1;
+            Step::Taken(fields.length, next, leap)
         }
         FrameAnswer::Message(told) => {
             put_message(told, out);
             let leap = leap_after(told.minute, leap_read(due));
-            Step::Taken(told.length, Due::Minute(told.minute + 1, leap))
+            let next = told.minute + 1;
+            Step::Taken(told.length, next, leap)
         }
     }
 }
@@ -194,9 +198,9 @@ pub fn read_one(bits: &[u8], entry: &mut [u8], due: Due) -> One
             end: End::Refused(refusal),
             due,
         },
-        Step::Taken(length, next) => One {
+        Step::Taken(length, minute, leap) => One {
             end: End::Complete,
-            due: next,
+            due: Due::Minute(minute, leap),
         },
     }
 }
@@ -223,10 +227,10 @@ pub fn read_from(bits: &[u8], entries: &mut [u8], due: Due) -> Summary
                     due: next,
                 };
             }
-            Step::Taken(length, after) => {
+            Step::Taken(length, minute, leap) => {
                 used += length as usize;
                 count += 1;
-                next = after;
+                next = Due::Minute(minute, leap);
             }
         }
     }

@@ -1,8 +1,8 @@
 -- Question 1 of a plan with messages.
 -- Assumes nothing.
-use mathlib.Core.Bool.{Bool, true, false, _&&_}
+use mathlib.Core.Bool.{Bool, true, false, and-false, _&&_}
 use mathlib.Core.List.{[]}
-use mathlib.Core.Path.{_≡_, refl}
+use mathlib.Core.Path.{_≡_, refl, ap, _∙_}
 use Rattle.bits.proofs.Tests.{and-true, both-true}
 use Rattle.plan.specs.Plan.{legalPlan}
 use Rattle.plan.specs.declared.Plan.{Plan}
@@ -15,11 +15,15 @@ module _ (p : Schedule) where
   unfolding legalSchedule
   plan-illegal h = rw h
 
+  pub messages-illegal : legalMessages (p .messages) ≡ false → legalSchedule p ≡ false
+  unfolding legalSchedule
+  messages-illegal h = ap (λ b. legalPlan (p .plan) && b) h ∙ and-false (legalPlan (p .plan))
+
   pub by-messages : legalPlan (p .plan) ≡ true → legalSchedule p ≡ legalMessages (p .messages)
   unfolding legalSchedule
   by-messages h = rw h
 
-  both-legal : legalPlan (p .plan) ≡ true → legalMessages (p .messages) ≡ true → legalSchedule p ≡ true
+  pub both-legal : legalPlan (p .plan) ≡ true → legalMessages (p .messages) ≡ true → legalSchedule p ≡ true
   unfolding legalSchedule
   both-legal h g = and-true h g
 

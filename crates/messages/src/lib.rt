@@ -1,12 +1,11 @@
-// Messages as bytes: ten for each, its minute and its data; and question 1 of a plan with them.
+// Messages as bytes: ten for each, its minute and its data.
 ghost use mathlib.Core.Path.{_≡_};
 ghost use Prim.Native.Nat.{_+_, _*_, _/_, _%_, _≤_, _<_};
 ghost use lib.ListN.{length};
-ghost use Rattle.messages.specs.Message.{legalMessages, legalSchedule};
-ghost use Rattle.messages.specs.Bytes.{messageSize, bigEndian, messageAt, messagesIn, scheduleOf};
+ghost use Rattle.messages.specs.Message.{legalMessages};
+ghost use Rattle.messages.specs.Bytes.{messageSize, bigEndian, messageAt, messagesIn};
 ghost use Rattle.messages.specs.Walk.{remaining, nextMinute, allFrom};
 use calendar::Date;
-use plan::Plan;
 
 // The bytes of a message.
 const SIZE: usize = 10;
@@ -56,8 +55,8 @@ pub fn payload_at(bytes: &[u8], k: usize) -> u64
     (high * 65536 + middle) * 65536 + low
 }
 
-// What question 1 asks of the messages. Most plans have none.
-fn are_legal(bytes: &[u8]) -> bool
+// Question 1 of the messages. Most plans have none.
+pub fn is_legal(bytes: &[u8]) -> bool
     ensures { λ r. ⌜ r ≡ legalMessages (messagesIn (now (bytes .entry))) ⌝ }
 {
     if bytes.len() == 0 {
@@ -87,16 +86,6 @@ fn are_legal(bytes: &[u8]) -> bool
         k += 1;
     }
     true
-}
-
-// Question 1 of a plan with its messages.
-pub fn is_legal(plan: Plan, bytes: &[u8]) -> bool
-    ensures { λ r. ⌜ r ≡ legalSchedule (scheduleOf plan (now (bytes .entry))) ⌝ }
-{
-    if plan.is_legal() {
-        return are_legal(bytes);
-    }
-    false
 }
 
 // The minute of message k, or the end of the range where there is none.

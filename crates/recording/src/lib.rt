@@ -49,6 +49,17 @@ impl WriteRefusal {
 
 const MAX_COUNT: u32 = 1_000;
 
+// Question 1, in a function of its own: with one branch more before its call of write_frames the compiler takes that call
+// for a rare one, and a single frame is written some 10 % slower.
+fn is_legal(plan: Plan, messages: &[u8]) -> bool
+    ensures { λ r. ⌜ r ≡ legalSchedule (scheduleOf plan (now (messages .entry))) ⌝ }
+{
+    if plan.is_legal() {
+        return messages::is_legal(messages);
+    }
+    false
+}
+
 // The bits of the frames of count minutes from the first on. They are less than a day, so that one of them at most
 // ends a day, and only such a minute can have 59 or 61 seconds.
 fn bits_needed(plan: Plan, first: u32, count: u32) -> usize
@@ -150,7 +161,7 @@ pub fn write_recording(
         × (now (out .exit)
         ≡ bufferWritten (scheduleOf plan (now (messages .entry))) first count (now (out .entry))) ⌝ }
 {
-    if !messages::is_legal(plan, messages) {
+    if !is_legal(plan, messages) {
         return WriteAnswer::Refused(WriteRefusal::IllegalPlan);
     }
     if count < 1 {

@@ -65,8 +65,8 @@ put-entry-requires c κs = search needs
 leap-after-time-requires : tie.Need-leap-after-time-requires
 leap-after-time-requires c κs = search needs
 
-add-t19 : tie.Need-add-t19
-add-t19 c =
+add-next : tie.Need-add-next
+add-next c =
     let k = c .before .before .before .before .before .before in
     omega (arith, accepted (z k .args .due) (z k .args .alone) (z k .args .bits .now) (e k) (entry-is k) .minute-in)
 
@@ -82,9 +82,9 @@ leap-read-requires c κs = search needs
 leap-after-requires : tie.Need-leap-after-requires
 leap-after-requires c κs = search needs
 
-add-t25 : tie.Need-add-t25
+add-next-2 : tie.Need-add-next-2
 unfolding messageEntry
-add-t25 c =
+add-next-2 c =
     let k = c .before .before .before .before .before .before .before in
     omega (arith, accepted (zm k .args .due) (zm k .args .alone) (zm k .args .bits .now) (em k) (message-is k) .minute-in)
 
@@ -129,12 +129,12 @@ read-entry-spec =
     enum-known-answer-2
     put-entry-requires
     leap-after-time-requires
-    add-t19
+    add-next
     enum-known-answer-3
     put-message-requires
     leap-read-requires
     leap-after-requires
-    add-t25
+    add-next-2
     returns-2
     same-length
     returns-3

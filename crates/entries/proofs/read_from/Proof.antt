@@ -12,6 +12,7 @@ use Rattle.format.specs.Entry.{Entry, entrySize, entryBytes}
 use Rattle.format.specs.Questions.{after}
 use Rattle.format.specs.Next.{Answer, refused, entry, readNext, readEntry, oneOutcome}
 use Rattle.format.specs.declared.Due.{Due}
+use Rattle.format.specs.declared.Due.the-variants.{Minute}
 use Rattle.frame.specs.Answer.{refusalNumber}
 use Rattle.format.proofs.Accepted.{Accepted, accepted}
 use Rattle.format.proofs.One.{yes-5}
@@ -166,9 +167,12 @@ module _ (k : tie.After-known-told2 Inv-loop μ-loop) where
   abbrev rk : tie.After-read-entry Inv-loop μ-loop
   rk = k .before .before .before .before .before
 
-  went : Advanced (a rk .loop .next) (answer (a rk)) (k .before .step2 .given .0 .0) (k .before .step2 .given .0 .1 .0)
+  abbrev state : Due
+  state = Minute (k .before .step2 .given .0 .1 .0) (k .before .step2 .given .0 .1 .1 .0)
+
+  went : Advanced (a rk .loop .next) (answer (a rk)) (k .before .step2 .given .0 .0) state
   went =
-      advanced (a rk .loop .next) (answer (a rk)) (k .before .step2 .given .0 .0) (k .before .step2 .given .0 .1 .0)
+      advanced (a rk .loop .next) (answer (a rk)) (k .before .step2 .given .0 .0) state
       (sym (ap stepNumbers (k .before .step2 .given .1)) ∙ progress-is rk)
 
 loop-holds : tie.Need-loop-holds Inv-loop μ-loop

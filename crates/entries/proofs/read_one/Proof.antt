@@ -8,6 +8,7 @@ use borrow.Author.Needs.{needs}
 use lib.ListN.{length}
 use Rattle.format.specs.Next.{Answer, readEntry, readOne, oneDue}
 use Rattle.format.specs.declared.Due.{Due}
+use Rattle.format.specs.declared.Due.the-variants.{Minute}
 use Rattle.frame.specs.Answer.{refusalNumber}
 use Rattle.entries.specs.Answer.{halt, advance, progress}
 use Rattle.entries.proofs.Progress.{one-halted, one-advanced}
@@ -53,7 +54,7 @@ unfolding readOne oneDue
 returns-2 c =
     let r = c .before .before .before .before .before in
     let n = c .before .step2 .given .0 .0 in
-    let d = c .before .step2 .given .0 .1 .0 in
+    let d : Due = Minute (c .before .step2 .given .0 .1 .0) (c .before .step2 .given .0 .1 .1 .0) in
     let h : advance n d ≡ progress (due r) (answer r) = rw (c .before .step2 .given .1) at (r .read-entry .ensures .0) in
     one-advanced (due r) (buffer r) (r .read-entry .last .1 .1 .1 .0) (answer r) n d h (r .read-entry .ensures .1)
 
