@@ -52,12 +52,11 @@ pub struct Fields {
     pub echo: u8,
 }
 
-// What a message says. The minute is the counted one, and the length that of its place. The length stands where a time
-// frame has its own: with another order of the fields the compiler packs those of a time frame, and reading waits for all.
+// What a message says. The minute is the counted one, and the length that of its place.
 pub struct Told {
+    pub minute: u32,
     pub length: u8,
     pub notice: u8,
-    pub minute: u32,
     pub payload: u64,
 }
 
