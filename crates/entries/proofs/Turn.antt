@@ -56,7 +56,9 @@ pub turn : (fewer count used n : ℕ) (due d : Due) (bits buffer ys : List ℕ) 
     → 0 < length (drop used bits) → readNext due false (drop used bits) ≡ entry e
     → count * entrySize + entrySize ≤ length buffer → ys ≡ entryBytes e ++ drop entrySize (take (length buffer - count * entrySize) (drop (count * entrySize) buffer))
     → resume count used buffer (readFrames (suc fewer) due (drop used bits)) ≡ o
-    → resume (count + 1) (used + n) (take (count * entrySize) buffer ++ (ys ++ drop (length buffer - count * entrySize) (drop (count * entrySize) buffer))) (readFrames fewer d (drop (used + n) bits)) ≡ o
+    → resume (count + 1) (used + n) (take (count * entrySize) buffer ++ (ys ++ drop (length buffer - count * entrySize) (drop (count * entrySize) buffer)))
+    (readFrames fewer d (drop (used + n) bits))
+    ≡ o
 turn fewer count used n due d bits buffer ys e o en ed some r room h inv =
     rw (en, ed, put-back buffer ys (count * entrySize) e room h, ← drop-drop (e .seconds) used bits)
     (sym (resume-add count used buffer e (readFrames fewer (after due e) (drop (e .seconds) (drop used bits))) room)

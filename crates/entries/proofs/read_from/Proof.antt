@@ -72,7 +72,8 @@ module _ (a : tie.At-loop Inv-loop μ-loop) where
 
   -- where what is left finds nothing more, the outcome is what is there
   stopped-at : (n : ℕ) (later : List ℕ) → later ≡ a .loop .entries → readFrames slots (a .loop .next) rest ≡ stop (a .loop .next) n
-      → (_≡_ {A = Outcome} (record { count = a .loop .count; used = a .loop .used; refusal = n; buffer = later }) (readFrom first buffer bits)) × (a .loop .next ≡ dueFrom first buffer bits)
+      → (_≡_ {A = Outcome} (record { count = a .loop .count; used = a .loop .used; refusal = n; buffer = later }) (readFrom first buffer bits))
+      × (a .loop .next ≡ dueFrom first buffer bits)
   unfolding stop
   stopped-at n later same e = (
     rw same
@@ -115,7 +116,9 @@ module _ (k : tie.After-known-told Inv-loop μ-loop) where
   refused-is : answer (a rh) ≡ refused question
   refused-is = halted (a rh .loop .next) (answer (a rh)) question (sym (ap stepNumbers (k .before .step .given .1)) ∙ progress-is rh)
 
-  kept : take (from (a rh)) (a rh .loop .entries) ++ (later rh ++ drop (length (a rh .loop .entries) - from (a rh)) (drop (from (a rh)) (a rh .loop .entries))) ≡ a rh .loop .entries
+  kept : take (from (a rh)) (a rh .loop .entries)
+      ++ (later rh ++ drop (length (a rh .loop .entries) - from (a rh)) (drop (from (a rh)) (a rh .loop .entries)))
+      ≡ a rh .loop .entries
   unfolding oneOutcome
   kept = same-back (a rh .loop .entries) (later rh) (from (a rh)) (rw refused-is at (later-is rh))
 
@@ -179,7 +182,13 @@ loop-holds : tie.Need-loop-holds Inv-loop μ-loop
 unfolding readFrom dueFrom
 loop-holds c =
     let b = c .before .before .args in
-    (omega arith, omega arith, refl, rw (sub-zero (length (b .entries .now) / entrySize)) (resume-none (b .entries .now) (readFrames (length (b .entries .now) / entrySize) (b .due) (b .bits .now))), rw (sub-zero (length (b .entries .now) / entrySize)))
+    let n = length (b .entries .now) / entrySize in (
+      omega arith,
+      omega arith,
+      refl,
+      rw (sub-zero n) (resume-none (b .entries .now) (readFrames n (b .due) (b .bits .now))),
+      rw (sub-zero n),
+    )
 
 mul-from : tie.Need-mul-from Inv-loop μ-loop
 mul-from c = omega arith
