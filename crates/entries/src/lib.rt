@@ -42,6 +42,14 @@ pub struct One {
     pub due: Due,
 }
 
+// What the step of reading came to: the bits of the frame, with the minute that is due after it and the leap state last
+// read in the month of that minute, or the refusal. The numbers stand side by side: a Due in their place would be copied
+// through memory for each frame.
+enum Step {
+    Taken(u8, u32, u8),
+    Refused(Refusal),
+}
+
 impl End {
     // The refusal's number, or 0.
     pub fn number(self) -> u32
@@ -146,14 +154,6 @@ fn leap_after_time(minute: u32, state: State) -> u8
 {
     let leap = state.leap;
     leap_after(minute, codewords::leap_number(leap))
-}
-
-// What the step of reading came to: the bits of the frame, with the minute that is due after it and the leap state last
-// read in the month of that minute, or the refusal. The numbers stand side by side: a Due in their place would be copied
-// through memory for each frame.
-enum Step {
-    Taken(u8, u32, u8),
-    Refused(Refusal),
 }
 
 // The step of reading: the next frame in a state, alone or of a recording, to the front of out as an entry of 18 bytes.
