@@ -190,15 +190,25 @@ fn seconds_with(last: u8, minute: u32) -> u8
     }
 }
 
-// The length that a leap state and a minute call for; the calendar is asked only where there is a leap second.
+// The seconds that the number of a leap state and a minute call for; the calendar is asked only where there is a leap
+// second.
+fn seconds_for(leap: u8, minute: u32) -> u8
+    ensures { λ r. ⌜ r ≡ secondsFor leap (lastOfMonth minute) ⌝ }
+{
+    if leap == 0 {
+        return USUAL_FRAME;
+    }
+    if leap == 1 {
+        return seconds_with(MIN_FRAME, minute);
+    }
+    seconds_with(MAX_FRAME, minute)
+}
+
+// The length that a leap state and a minute call for.
 fn length_for(leap: LeapState, minute: u32) -> u8
     ensures { λ r. ⌜ r ≡ secondsFor (leapNumber leap) (lastOfMonth minute) ⌝ }
 {
-    match leap {
-        LeapState::None => USUAL_FRAME,
-        LeapState::Negative => seconds_with(MIN_FRAME, minute),
-        LeapState::Positive => seconds_with(MAX_FRAME, minute),
-    }
+    seconds_for(codewords::leap_number(leap), minute)
 }
 
 // Question 13: as many bytes as called for, and those after byte 58 all 0.

@@ -3,9 +3,7 @@ ghost use mathlib.Core.Path.{_≡_};
 ghost use lib.ListN.{take};
 ghost use Rattle.questions.specs.Questions.{asked};
 ghost use Rattle.bits.specs.Bits.{bits};
-ghost use Rattle.calendar.specs.Calendar.{lastOfMonth};
 ghost use Rattle.format.specs.Frame.{minFrame};
-ghost use Rattle.format.specs.Reading.{secondsFor};
 ghost use Rattle.format.specs.Questions.{messageIn, question20, messageQuestions};
 ghost use Rattle.format.specs.Next.{refused, entry};
 ghost use Rattle.frame.specs.Answer.{frameNumbers};
@@ -14,19 +12,6 @@ use crate::Refusal;
 use crate::Told;
 use calendar::Date;
 use format::Due;
-
-// The length that the number of a leap state and a minute call for.
-fn length_for(leap: u8, minute: u32) -> u8
-    ensures { λ r. ⌜ r ≡ secondsFor leap (lastOfMonth minute) ⌝ }
-{
-    if leap == 0 {
-        return crate::USUAL_FRAME;
-    }
-    if leap == 1 {
-        return crate::seconds_with(crate::MIN_FRAME, minute);
-    }
-    crate::seconds_with(crate::MAX_FRAME, minute)
-}
 
 // Question 20: the last minute of a month needs the month's leap state.
 fn is_known(leap: u8, minute: u32) -> bool
@@ -43,7 +28,9 @@ fn read_counted(frame: &[u8], alone: bool, word: u64, minute: u32, leap: u8) -> 
     requires { ⌜ take minFrame (now frame) ≡ bits minFrame word ⌝ }
     ensures { λ r.
         ⌜ frameNumbers r
-        ≡ asked refused (messageQuestions (Due.Minute minute leap) alone (now (frame .entry)) (messageIn (Due.Minute minute leap) (now (frame .entry)))) (entry (messageIn (Due.Minute minute leap) (now (frame .entry)))) ⌝ }
+        ≡ asked refused
+        (messageQuestions (Due.Minute minute leap) alone (now (frame .entry)) (messageIn (Due.Minute minute leap) (now (frame .entry))))
+        (entry (messageIn (Due.Minute minute leap) (now (frame .entry)))) ⌝ }
 {
     if !is_known(leap, minute) {
         return FrameAnswer::Refused(Refusal::LeapUnknown);
@@ -51,7 +38,7 @@ fn read_counted(frame: &[u8], alone: bool, word: u64, minute: u32, leap: u8) -> 
     if Date::MINUTES <= minute {
         return FrameAnswer::Refused(Refusal::Minute);
     }
-    let length = length_for(leap, minute);
+    let length = crate::seconds_for(leap, minute);
     if !crate::ends_right(frame, alone, length as usize) {
         return FrameAnswer::Refused(Refusal::Length);
     }

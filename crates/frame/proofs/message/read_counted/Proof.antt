@@ -63,7 +63,7 @@ module _ (a : tie.After-ends-right) where
 
   q13 : a .ends-right .result ≡ question13 (one g) (f g) (e g)
   unfolding messageIn messageEntry
-  q13 = rw (← a .before .length-for .ensures) (a .ends-right .ensures)
+  q13 = rw (← a .before .seconds-for .ensures) (a .ends-right .ensures)
 
 -- where question 14 is asked
 module _ (b : tie.After-echo-bit) where
@@ -88,14 +88,14 @@ unfolding messageIn messageEntry
 returns-2 c = let k = c .before .before in
     sym (no-11 (m k) (l k) (one k) (f k) (e k) (q20 (c .before)) (c .if2 .taken))
 
-length-for-requires : tie.Need-length-for-requires
-length-for-requires c κs = search needs
+seconds-for-requires : tie.Need-seconds-for-requires
+seconds-for-requires c κs = search needs
 
 cast-ends-right : tie.Need-cast-ends-right
 cast-ends-right c = search needs
 
 ends-right-requires : tie.Need-ends-right-requires
-ends-right-requires c κs = rw (c .length-for .ensures) (seconds-long _ _)
+ends-right-requires c κs = rw (c .seconds-for .ensures) (seconds-long _ _)
 
 returns-3 : tie.Need-returns-3
 returns-3 c =
@@ -132,7 +132,7 @@ returns-5 c =
     let w = z k .args .word in
     ap entry
     (same-entry (m k) (l k) _ _ _ (f k)
-    (a .before .length-for .ensures)
+    (a .before .seconds-for .ensures)
     (c .before .notice-bit .ensures ∙ notice-bit w ∙ sym (notice-of (f k) w (z k .pre)))
     (c .message-data .ensures ∙ sym (data-of (f k) w (z k .pre))))
     ∙ sym (yes-14 (m k) (l k) (one k) (f k) (e k) (q20 (o a)) (q11 a) (yes-13 b) (echo-is b ∙ c .before .before .if4 .left))
@@ -144,7 +144,7 @@ read-counted-spec =
     is-known-requires
     returns
     returns-2
-    length-for-requires
+    seconds-for-requires
     cast-ends-right
     ends-right-requires
     returns-3

@@ -1,12 +1,12 @@
--- `frame::message::length_for` meets its contract.
+-- `frame::seconds_for` meets its contract.
 -- Assumes nothing.
 use mathlib.Core.Path.{_∙_}
 use native.Mathlib.Omega.{arith}
 use borrow.Author.Needs.{needs}
 use Rattle.format.specs.Reading.{secondsFor}
 use Rattle.frame.proofs.Lengths.{shorter, longer}
-use Rattle.frame.proofs.message.length_for.Statement.{statement}
-use Rattle.frame.proofs.message.length_for.Tie as tie
+use Rattle.frame.proofs.seconds_for.Statement.{statement}
+use Rattle.frame.proofs.seconds_for.Tie as tie
 
 returns : tie.Need-returns
 unfolding secondsFor
@@ -25,6 +25,6 @@ returns-3 : tie.Need-returns-3
 returns-3 c =
     c .seconds-with2 .ensures ∙ longer _ _ (omega (arith, c .before .if2 .left, c .before .before .if1 .left))
 
-pub length-for-spec : {M : Type 1} → statement M
-length-for-spec =
+pub seconds-for-spec : {M : Type 1} → statement M
+seconds-for-spec =
     tie.close (tie.spec returns seconds-with-requires returns-2 seconds-with-requires-2 returns-3)
