@@ -12,9 +12,11 @@ use Rattle.bits.specs.Bits.{pick}
 use Rattle.questions.proofs.Laws.{asked-map, Verdict, verdict, all-yes, first-no, accepted-when, refused-when, answers-in, zero-when, number-when, number-in, listed, yes-after}
 use Rattle.format.specs.Entry.{Entry, entrySize, entryBytes}
 use Rattle.format.specs.Message.{isMessage}
-use Rattle.format.specs.Questions.{start, after, follows, entryNext, question5, question6, question7, question8, timeQuestions, messageQuestions, nextQuestions, entryQuestions}
+use Rattle.format.specs.Questions.{start, after, follows, entryNext, question5, question6, question7, question8}
+use Rattle.format.specs.Questions.{timeQuestions, messageQuestions, nextQuestions, entryQuestions}
 use Rattle.format.specs.Next.{Answer, refused, entry, readNext, readEntry, oneOutcome, readOne}
-use Rattle.format.specs.Refusals.{nextNumbers, entryNumbers, FrameOrder, FrameAccepted, FrameRefused, FrameAnswers, OrderAsked, LeapAfter, OneAccepted, OneRefused, OneAnswers, firstNumbers, FirstAnswers, OneBuffer}
+use Rattle.format.specs.Refusals.{nextNumbers, entryNumbers, FrameOrder, FrameAccepted, FrameRefused, FrameAnswers, OrderAsked, LeapAfter}
+use Rattle.format.specs.Refusals.{OneAccepted, OneRefused, OneAnswers, firstNumbers, FirstAnswers, OneBuffer}
 use Rattle.format.specs.declared.Due.{Due}
 
 -- the numbers of the questions of a message (true) or of a time frame (false)

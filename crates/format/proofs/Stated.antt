@@ -4,7 +4,8 @@ use Rattle.format.specs.Entry.{EntryLaidOut}
 use Rattle.format.specs.Inverting.{InvertsOneBit}
 use Rattle.format.specs.MessageBits.{MessagesSent, MessageLaidOut, EntryKinds}
 use Rattle.format.specs.Received.{EchoByteAlone}
-use Rattle.format.specs.Refusals.{FrameOrder, SpaceFirst, FrameAccepted, FrameRefused, FrameAnswers, FrameFacts, MessageFacts, OrderAsked, LeapAfter, OneAccepted, OneRefused, OneAnswers, FirstAnswers, OneBuffer}
+use Rattle.format.specs.Refusals.{FrameOrder, SpaceFirst, FrameAccepted, FrameRefused, FrameAnswers, FrameFacts, MessageFacts, OrderAsked, LeapAfter}
+use Rattle.format.specs.Refusals.{OneAccepted, OneRefused, OneAnswers, FirstAnswers, OneBuffer}
 use Rattle.format.specs.OneBit.{AnyBitInverted}
 use Rattle.format.specs.FalseMinute.{FrameReadNear}
 use Rattle.format.specs.TwoErrors.{TwoErrorsMistaken}
@@ -15,7 +16,8 @@ use Rattle.format.proofs.Echo.{echo-byte-alone}
 use Rattle.format.proofs.Facts.{frame-facts}
 use Rattle.format.proofs.MessageFacts.{message-facts}
 use Rattle.format.proofs.Contents.{messages-sent}
-use Rattle.format.proofs.Refusals.{frame-order, frame-accepted, frame-refused, frame-answers, order-asked, leap-after, one-accepted, one-refused, one-answers, first-answers, one-buffer}
+use Rattle.format.proofs.Refusals.{frame-order, frame-accepted, frame-refused, frame-answers, order-asked, leap-after}
+use Rattle.format.proofs.Refusals.{one-accepted, one-refused, one-answers, first-answers, one-buffer}
 use Rattle.format.proofs.One.{space-first}
 use Rattle.format.proofs.OneBit.{any-bit-inverted}
 use Rattle.format.proofs.FalseMinute.{frame-read-near}

@@ -51,7 +51,8 @@ read-number (suc n) x a b h =
     let z = x % 256 in
     let less : y < 256 ^ n = omega (arith, pow-suc 256 n) in
     let same : a ++ ((numberBytes n y ++ (z ∷ [])) ++ b) ≡ a ++ (numberBytes n y ++ (z ∷ b)) = ap (λ l. a ++ l) (append-assoc (numberBytes n y) (z ∷ []) b) in
-    let last : getD (a ++ (numberBytes n y ++ (z ∷ b))) (length a + n) 0 ≡ z = getD-append-add a (numberBytes n y ++ (z ∷ b)) n 0 ∙ getD-at (numberBytes n y) z b 0 n (length-number n y) in
+    let last : getD (a ++ (numberBytes n y ++ (z ∷ b))) (length a + n) 0 ≡ z =
+    getD-append-add a (numberBytes n y ++ (z ∷ b)) n 0 ∙ getD-at (numberBytes n y) z b 0 n (length-number n y) in
     rw (same, read-number n y a (z ∷ b) less, last) (omega arith)
 
 module _ (c : Message) (m : c .minute < 2 ^ 32) (d : c .payload < 2 ^ 48) (a b : List ℕ) (k : ℕ) (here : length a ≡ k * messageSize) where

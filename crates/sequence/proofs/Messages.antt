@@ -81,41 +81,36 @@ module _ (c : Message) (cs : List Message) (s : Sent) where
   unfolding contentOf
   passed-by h = rw h
 
--- the minute of what is sent
-abbrev pub minuteOf : Content → ℕ
-minuteOf (time s) = s .minute
-minuteOf (message s d) = s .minute
+-- the fields of a content's frame
+abbrev sentIn : Content → Sent
+sentIn (time s) = s
+sentIn (message s d) = s
 
-minute-of : (cs : List Message) (s : Sent) → minuteOf (contentOf cs s) ≡ s .minute
+sent-in : (cs : List Message) (s : Sent) → sentIn (contentOf cs s) ≡ s
 unfolding contentOf
-minute-of [] s = refl
-minute-of (c ∷ cs) s = go (eqb (c .minute) (s .minute)) (minute-of cs s)
+sent-in [] s = refl
+sent-in (c ∷ cs) s = go (eqb (c .minute) (s .minute)) (sent-in cs s)
   where
-    go : (b : Bool) → minuteOf (contentOf cs s) ≡ s .minute → minuteOf (pick b (message s (c .payload)) (contentOf cs s)) ≡ s .minute
+    go : (b : Bool) → sentIn (contentOf cs s) ≡ s → sentIn (pick b (message s (c .payload)) (contentOf cs s)) ≡ s
     go true h = refl
     go false h = h
+
+content-sent : (p : Schedule) (m : ℕ) → sentIn (contentAt p m) ≡ sentBy (p .plan) m
+unfolding contentAt
+content-sent p m = sent-in (p .messages) (sentBy (p .plan) m)
+
+-- its minute and its length
+abbrev pub minuteOf : Content → ℕ
+minuteOf c = sentIn c .minute
+
+abbrev pub secondsIn : Content → ℕ
+secondsIn c = sentIn c .seconds
 
 pub content-minute : (p : Schedule) (m : ℕ) → minuteOf (contentAt p m) ≡ m
-unfolding contentAt
-content-minute p m = minute-of (p .messages) (sentBy (p .plan) m) ∙ (unfold sentBy in refl)
-
--- its length
-abbrev pub secondsIn : Content → ℕ
-secondsIn (time s) = s .seconds
-secondsIn (message s d) = s .seconds
-
-seconds-in : (cs : List Message) (s : Sent) → secondsIn (contentOf cs s) ≡ s .seconds
-unfolding contentOf
-seconds-in [] s = refl
-seconds-in (c ∷ cs) s = go (eqb (c .minute) (s .minute)) (seconds-in cs s)
-  where
-    go : (b : Bool) → secondsIn (contentOf cs s) ≡ s .seconds → secondsIn (pick b (message s (c .payload)) (contentOf cs s)) ≡ s .seconds
-    go true h = refl
-    go false h = h
+content-minute p m = ap (λ (s : Sent). s .minute) (content-sent p m) ∙ (unfold sentBy in refl)
 
 pub content-seconds : (p : Schedule) (m : ℕ) → secondsIn (contentAt p m) ≡ lengthAt (p .plan) m
-unfolding contentAt
-content-seconds p m = seconds-in (p .messages) (sentBy (p .plan) m) ∙ (unfold sentBy in refl)
+content-seconds p m = ap (λ (s : Sent). s .seconds) (content-sent p m) ∙ (unfold sentBy in refl)
 
 view : (b : ℕ) (cs : List Message) (s : Sent) → rising b cs ≡ true → View cs s
 view b [] s h = is-time (unfold contentOf in refl)

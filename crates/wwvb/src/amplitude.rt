@@ -49,7 +49,8 @@ pub extern "C" fn wwvb_write_amplitude(
 ) -> WriteReply
     ensures { λ r.
         ⌜ (symbolsReply r
-        ≡ replyNumbers 1 (writeAmplitude (scheduleOf (planOf kind spring autumn «leap_month» «leap_sign» notice) (now (messages .entry))) minute «ut1_sign» «ut1_tenths» (length (now (out .entry)))))
+        ≡ replyNumbers 1
+        (writeAmplitude (scheduleOf (planOf kind spring autumn «leap_month» «leap_sign» notice) (now (messages .entry))) minute «ut1_sign» «ut1_tenths» (length (now (out .entry)))))
         × (now (out .exit)
         ≡ symbolsWritten (scheduleOf (planOf kind spring autumn «leap_month» «leap_sign» notice) (now (messages .entry))) minute «ut1_sign» «ut1_tenths» (now (out .entry))) ⌝ }
 {

@@ -65,7 +65,8 @@ returns c =
     let a = i .before .before in
     let x = sentBy (p a) (m a) in
     let e = i .if1 .taken in
-    let w : c .message-frame .result ≡ number (messageBody (bits 42 (d a e)) (x .minute % 2) (x .notice)) = unfold sentBy in (rw (y .payload-at .ensures) at (c .message-frame .ensures)) in (
+    let w : c .message-frame .result ≡ number (messageBody (bits 42 (d a e)) (x .minute % 2) (x .notice)) =
+    unfold sentBy in (rw (y .payload-at .ensures) at (c .message-frame .ensures)) in (
       rw w (message-lt (d a e) (x .minute % 2) (x .notice) (omega arith) (omega (arith, notice a))),
       message-bits x (d a e) _ (lengthAt (p a) (m a)) (notice a) w (unfold sentBy in refl)
           ∙ ap frameOf (sym (message-sent (p a) (s a) (a .pre .0) (m a) (a .args .k) (a .args .due) (a .pre .2) (a .pre .1) e)),
