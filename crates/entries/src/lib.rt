@@ -42,12 +42,12 @@ pub struct One {
     pub due: Due,
 }
 
-// What the step of reading came to: the bits of the frame, with the minute that is due after it and the leap state last
-// read in the month of that minute, or the refusal. The numbers stand side by side: a Due in their place would be copied
-// through memory for each frame.
+// What the step of reading came to: the frame's number of bits, with the minute that is due after it and the leap state
+// last read in the month of that minute; or the refusal. The three numbers stand side by side: a Due for the last two
+// would be stored in pieces and loaded as a whole, and each frame would wait for it.
 enum Step {
-    Taken(u8, u32, u8),
-    Refused(Refusal),
+    Advance(u8, u32, u8),
+    Halt(Refusal),
 }
 
 impl End {
@@ -165,22 +165,22 @@ fn read_entry(bits: &[u8], alone: bool, due: Due, out: &mut [u8]) -> Step
         ≡ oneOutcome (now (out .entry)) (readEntry due alone (length (now (out .entry))) (now (bits .entry))) .buffer) ⌝ }
 {
     if out.len() < ENTRY_SIZE {
-        return Step::Refused(Refusal::EntrySpace);
+        return Step::Halt(Refusal::EntrySpace);
     }
     let answer = reader::read_next(bits, alone, due);
     match answer {
-        FrameAnswer::Refused(refusal) => Step::Refused(refusal),
+        FrameAnswer::Refused(refusal) => Step::Halt(refusal),
         FrameAnswer::Read(state, fields) => {
             put_entry(state, fields, out);
             let leap = leap_after_time(fields.minute, state);
             let next = fields.minute + 1;
-            Step::Taken(fields.length, next, leap)
+            Step::Advance(fields.length, next, leap)
         }
         FrameAnswer::Message(told) => {
             put_message(told, out);
             let leap = leap_after(told.minute, leap_read(due));
             let next = told.minute + 1;
-            Step::Taken(told.length, next, leap)
+            Step::Advance(told.length, next, leap)
         }
     }
 }
@@ -194,11 +194,11 @@ pub fn read_one(bits: &[u8], entry: &mut [u8], due: Due) -> One
 {
     let step = read_entry(bits, true, due, entry);
     match step {
-        Step::Refused(refusal) => One {
+        Step::Halt(refusal) => One {
             end: End::Refused(refusal),
             due,
         },
-        Step::Taken(length, minute, leap) => One {
+        Step::Advance(length, minute, leap) => One {
             end: End::Complete,
             due: Due::Minute(minute, leap),
         },
@@ -219,7 +219,7 @@ pub fn read_from(bits: &[u8], entries: &mut [u8], due: Due) -> Summary
         let from = count * ENTRY_SIZE;
         let step = read_entry(&bits[used..], false, next, &mut entries[from..]);
         match step {
-            Step::Refused(refusal) => {
+            Step::Halt(refusal) => {
                 return Summary {
                     entries: count,
                     used,
@@ -227,7 +227,7 @@ pub fn read_from(bits: &[u8], entries: &mut [u8], due: Due) -> Summary
                     due: next,
                 };
             }
-            Step::Taken(length, minute, leap) => {
+            Step::Advance(length, minute, leap) => {
                 used += length as usize;
                 count += 1;
                 next = Due::Minute(minute, leap);

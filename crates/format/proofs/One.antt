@@ -33,14 +33,6 @@ module _ (due : Due) (buffer f : List ℕ) where
   abbrev Gives : ℕ → List ℕ → Due → Type 0
   Gives n later next = (_≡_ {A = OneOutcome} (record { refusal = n; buffer = later }) (readOne due buffer f)) × (next ≡ oneDue due buffer f)
 
-  pub one-no-space : length buffer < entrySize → Gives 5 buffer due
-  unfolding readOne oneOutcome oneDue dueAfterAnswer
-  one-no-space h = (rw (no-5 due true (length buffer) f h), rw (no-5 due true (length buffer) f h))
-
-  pub one-refused : (n : ℕ) → entrySize ≤ length buffer → readNext due true f ≡ refused n → Gives n buffer due
-  unfolding readOne oneOutcome oneDue dueAfterAnswer
-  one-refused n h e = (rw (yes-5 due true (length buffer) f h, e), rw (yes-5 due true (length buffer) f h, e))
-
   pub one-read : (e : Entry) (later : List ℕ) (next : Due) → entrySize ≤ length buffer → readNext due true f ≡ entry e
       → later ≡ entryBytes e ++ drop entrySize buffer → next ≡ after due e → Gives 0 later next
   unfolding readOne oneOutcome oneDue dueAfterAnswer

@@ -190,8 +190,8 @@ fn seconds_with(last: u8, minute: u32) -> u8
     }
 }
 
-// The seconds that the number of a leap state and a minute call for; the calendar is asked only where there is a leap
-// second.
+// The seconds that the number of a leap state and a minute call for; the calendar is asked only where that state is not
+// none.
 fn seconds_for(leap: u8, minute: u32) -> u8
     ensures { λ r. ⌜ r ≡ secondsFor leap (lastOfMonth minute) ⌝ }
 {

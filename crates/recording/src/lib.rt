@@ -49,8 +49,8 @@ impl WriteRefusal {
 
 const MAX_COUNT: u32 = 1_000;
 
-// Question 1, in a function of its own: with one branch more before its call of write_frames the compiler takes that call
-// for a rare one, and a single frame is written some 10 % slower.
+// Question 1, in a function of its own: with one branch more before write_recording calls write_frames the compiler takes
+// that call for a rare one, and a single frame is written some 10 % slower.
 fn is_legal(plan: Plan, messages: &[u8]) -> bool
     ensures { λ r. ⌜ r ≡ legalSchedule (scheduleOf plan (now (messages .entry))) ⌝ }
 {

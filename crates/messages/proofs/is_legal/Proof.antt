@@ -37,7 +37,7 @@ module _ (c : tie.In-loop Inv-loop μ-loop) where
   is = ap (rising (a .loop .from)) (sym (some-from s (a .loop .k) (omega arith))) ∙ a .loop .inv .2
 
 returns : tie.Need-returns Inv-loop μ-loop
-returns c = sym (no-bytes (c .before .before .args .bytes .now) (c .if1 .taken))
+returns c = sym (no-bytes (c .before .before .args .bytes .now) (omega arith))
 
 returns-2 : tie.Need-returns-2 Inv-loop μ-loop
 returns-2 c = sym (not-whole (c .before .before .before .args .bytes .now) (λ e. c .if2 .taken (omega arith)))
