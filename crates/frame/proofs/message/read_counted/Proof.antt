@@ -61,9 +61,12 @@ module _ (a : tie.After-ends-right) where
   unfolding messageIn messageEntry
   q11 = a .before .before .if2 .left
 
+  seconds-are : a .before .seconds-for .result ≡ secondsFor (l g) (lastOfMonth (m g))
+  seconds-are = a .before .seconds-for .ensures
+
   q13 : a .ends-right .result ≡ question13 (one g) (f g) (e g)
   unfolding messageIn messageEntry
-  q13 = rw (← a .before .seconds-for .ensures) (a .ends-right .ensures)
+  q13 = rw (← seconds-are) (a .ends-right .ensures)
 
 -- where question 14 is asked
 module _ (b : tie.After-echo-bit) where
