@@ -1,0 +1,4 @@
+pub mod Cells
+pub mod Entries
+pub mod Putting
+pub mod Texts

@@ -1,0 +1,11 @@
+pub mod Reading
+pub mod Entries
+pub mod Sent
+pub mod Cells
+pub mod Lines
+pub mod Pages
+pub mod Places
+pub mod Apart
+pub mod Answers
+pub mod Examples
+pub mod Stated

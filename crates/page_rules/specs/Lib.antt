@@ -1,0 +1,3 @@
+pub mod Page
+pub mod Printing
+pub mod Theorems
