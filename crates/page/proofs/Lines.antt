@@ -14,7 +14,7 @@ use Rattle.page_rules.specs.Page.{blanks, aligned, line, pageLines, feed, page}
 use Rattle.page_rules.specs.Theorems.{Each, Fits}
 use Rattle.page_rules.proofs.Lines.{every-append, every-many, every-take, every-line, Line, Lines, line-entry, line-many, text, length-text}
 use Rattle.page_rules.proofs.Pages.{fitting, text-append}
-use Rattle.page_lines.specs.Bytes.{entryIn}
+use Rattle.page_columns.specs.Bytes.{entryIn}
 use Rattle.page.specs.Bytes.{entriesFrom, entriesIn, lineAt, linesText}
 
 -- ---- the entries in bytes

@@ -23,8 +23,8 @@ use Rattle.page_rules.specs.Theorems.{Each, Fits}
 use Rattle.page_rules.proofs.Reading.{sized, PartOf, part-of, on-end}
 use Rattle.page_rules.proofs.Entries.{each-fits, entries-fit}
 use Rattle.page_rules.proofs.Pages.{pages-step, page-size, pages-length}
-use Rattle.page_lines.specs.Bytes.{entryIn}
-use Rattle.page_lines.proofs.Entries.{line-kept, fits-kept}
+use Rattle.page_columns.specs.Bytes.{entryIn}
+use Rattle.page_columns.proofs.Entries.{line-kept, fits-kept}
 use Rattle.page.specs.Bytes.{entriesFrom, entriesIn}
 use Rattle.page.proofs.Parts.{part, Part}
 

@@ -6,7 +6,7 @@ use lib.ListN.{length, getD, take, drop, replicate}
 use Rattle.bits.specs.Bits.{concat}
 use Rattle.format.specs.Entry.{Entry, entrySize}
 use Rattle.page_rules.specs.Page.{lineWidth, linesPerPage, blanks, line, feed}
-use Rattle.page_lines.specs.Bytes.{entryIn}
+use Rattle.page_columns.specs.Bytes.{entryIn}
 
 -- n entries, 18 bytes each
 unfoldable pub entriesFrom : ℕ → List ℕ → List Entry

@@ -1,4 +1,1 @@
-pub mod Cells
-pub mod Entries
-pub mod Putting
-pub mod Texts
+pub mod Copies

@@ -8,7 +8,7 @@ use borrow.Author.Needs.{needs}
 use lib.ListN.{length, drop}
 use Rattle.format.specs.Entry.{entrySize}
 use Rattle.page_rules.specs.Page.{line, feed}
-use Rattle.page_lines.specs.Bytes.{entryIn}
+use Rattle.page_columns.specs.Bytes.{entryIn}
 use Rattle.page.proofs.Lines.{entry-part, entry-line, blank-line, entry-fit, entry-whole}
 use Rattle.page.proofs.put_line_at.Statement.{statement}
 use Rattle.page.proofs.put_line_at.Tie as tie

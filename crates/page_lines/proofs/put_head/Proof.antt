@@ -1,13 +1,14 @@
 -- `page_lines::put_head` meets its contract.
 -- Assumes nothing.
-use Prim.Native.Nat.{ℕ, _-_, _≤_}
+use Prim.Native.Nat.{ℕ}
 use mathlib.Core.List.{List, _++_}
 use mathlib.Core.Path.{_≡_, refl, ap, _∙_}
 use native.Mathlib.Omega.{arith}
 use lib.ListN.{length, replicate, drop}
-use Rattle.page_rules.specs.Page.{blanks, aligned, feed}
-use Rattle.page_lines.proofs.Putting.{Put, putAt, copied, put-more, rest-length}
-use Rattle.page_lines.proofs.Texts.{head-made}
+use Rattle.page_rules.specs.Page.{blanks}
+use Rattle.sequence.proofs.Putting.{Put, rest-length, put-more}
+use Rattle.page_lines.proofs.Copies.{putAt, copied}
+use Rattle.page_columns.proofs.Texts.{head-made}
 use borrow.Author.Needs.{needs}
 use Rattle.page_lines.proofs.put_head.Statement.{statement}
 use Rattle.page_lines.proofs.put_head.Tie as tie
@@ -95,11 +96,11 @@ returns c =
     let d = c .before .before in
     let c₂ = d .before .before .before .before .before in
     let b = c₁ c₂ in
+    let text-is =
+    head-made (start b .args .number) (replicate 31 32) _ _ (omega arith) refl (made b .before .number-column .ensures) (made b .line-of .ensures) in
     let size : length (made b .line-of .result) ≡ 42 = search needs in
     let p = put-more (put₂ c₂) (copied 42 size (omega (arith, rest-length (put₂ c₂), start b .pre)) (d .copy3 .ensures .1)) in
-    let n = start b .args .number in
-    p .is
-    ∙ ap (λ (text : List ℕ). text ++ drop 84 (out₀ b)) (head-made n (replicate 31 32) _ _ (omega arith) refl (made b .before .number-column .ensures) (made b .line-of .ensures))
+    p .is ∙ ap (λ (text : List ℕ). text ++ drop 84 (out₀ b)) text-is
 
 pub put-head-spec : {M : Type 1} → statement M
 put-head-spec =
@@ -121,5 +122,3 @@ put-head-spec =
     copy-requires-3
     same-length
     returns)
-
--- x

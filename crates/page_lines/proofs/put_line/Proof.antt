@@ -1,17 +1,16 @@
 -- `page_lines::put_line` meets its contract.
 -- Assumes nothing.
-use Prim.Native.Nat.{ℕ, _-_, _≤_, _<_}
-use mathlib.Core.List.{List, [], _∷_, _++_}
-use mathlib.Core.Path.{_≡_, refl, sym, ap, _∙_}
+use Prim.Native.Nat.{ℕ, _-_, _≤_}
+use mathlib.Core.List.{List, _++_}
+use mathlib.Core.Path.{_≡_, ap, _∙_}
 use native.Mathlib.Omega.{arith}
 use lib.ListN.{length, take, drop}
-use Rattle.calendar.specs.Calendar.{minuteCount, dateAt}
-use Rattle.calendar.specs.declared.Date.{Date}
 use Rattle.format.specs.Entry.{Entry}
-use Rattle.page_rules.specs.Page.{dateText, timeText, feed, line}
-use Rattle.page_lines.specs.Bytes.{entryIn}
-use Rattle.page_lines.proofs.Putting.{Put, putAt, copied, put-more, rest-length}
-use Rattle.page_lines.proofs.Texts.{line-made}
+use Rattle.page_rules.specs.Page.{feed, line}
+use Rattle.page_columns.specs.Bytes.{entryIn}
+use Rattle.sequence.proofs.Putting.{Put, rest-length, put-more}
+use Rattle.page_lines.proofs.Copies.{putAt, copied}
+use Rattle.page_columns.proofs.Texts.{line-made}
 use borrow.Author.Needs.{needs}
 use Rattle.page_lines.proofs.put_line.Statement.{statement}
 use Rattle.page_lines.proofs.put_line.Tie as tie
