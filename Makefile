@@ -1,9 +1,10 @@
-# make            builds the static library, the shared library and station; rt proves them first
+# make            builds the static library, the shared library, station and shiftbook; rt proves
+#                 them first
 # make shared     builds the shared library, target/shared/libwwvb.so.VERSION
-# make quick      the library, the C tests and station, without the must-fail edits
+# make quick      the library, the C tests and both programs, without the must-fail edits
 # make test       the gate, .ci/run
 # make bench      the library beside a plain C codec, as a table
-# make install    libraries, header, pkg-config file, station and man pages below PREFIX
+# make install    libraries, header, pkg-config file, both programs and man pages below PREFIX
 #                 (DESTDIR is put before it)
 # make uninstall  removes these
 # make clean      removes target/
@@ -32,10 +33,11 @@ INSTALL = install
 
 LIBRARY = target/staticlib/libwwvb.a
 SHARED = target/shared/libwwvb.so.$(VERSION)
-PROGRAM = target/bin/station
+PROGRAMS = station shiftbook
+BINARIES = $(PROGRAMS:%=target/bin/%)
 SOURCES := $(shell find crates -name '*.rt' -o -name '*.antt') crates.txt
 
-all: $(LIBRARY) $(SHARED) $(PROGRAM)
+all: $(LIBRARY) $(SHARED) $(BINARIES)
 
 shared: $(SHARED)
 
@@ -58,9 +60,9 @@ $(LIBRARY): $(SOURCES)
 	rt staticlib wwvb
 	@touch $@
 
-$(PROGRAM): $(SOURCES)
+$(BINARIES): $(SOURCES)
 	$(need-rt)
-	rt check station
+	rt check $(@F)
 	@touch $@
 
 # The archive's code is position-independent. It needs no other library, and the link sees that.
@@ -85,26 +87,28 @@ bench: $(LIBRARY) need-cc
 # A folder as the pkg-config file names it: below ${prefix} where it is.
 relative = $(patsubst $(PREFIX)/%,$${prefix}/%,$(1))
 
-install: $(LIBRARY) $(SHARED) $(PROGRAM) need-install
+install: $(LIBRARY) $(SHARED) $(BINARIES) need-install
 	$(INSTALL) -d '$(DESTDIR)$(BINDIR)' '$(DESTDIR)$(INCLUDEDIR)' '$(DESTDIR)$(LIBDIR)' '$(DESTDIR)$(PKGCONFIGDIR)' \
 	    '$(DESTDIR)$(MANDIR)/man1' '$(DESTDIR)$(MANDIR)/man3'
-	$(INSTALL) -m 755 $(PROGRAM) '$(DESTDIR)$(BINDIR)/station'
+	$(INSTALL) -m 755 $(BINARIES) '$(DESTDIR)$(BINDIR)'
 	$(INSTALL) -m 644 include/wwvb.h '$(DESTDIR)$(INCLUDEDIR)/wwvb.h'
 	$(INSTALL) -m 644 $(LIBRARY) '$(DESTDIR)$(LIBDIR)/libwwvb.a'
 	$(INSTALL) -m 755 $(SHARED) '$(DESTDIR)$(LIBDIR)/libwwvb.so.$(VERSION)'
 	ln -sf libwwvb.so.$(VERSION) '$(DESTDIR)$(LIBDIR)/libwwvb.so.$(MAJOR)'
 	ln -sf libwwvb.so.$(MAJOR) '$(DESTDIR)$(LIBDIR)/libwwvb.so'
-	sed -e 's|@VERSION@|$(VERSION)|' man/station.1 >'$(DESTDIR)$(MANDIR)/man1/station.1'
-	sed -e 's|@VERSION@|$(VERSION)|' man/wwvb.3 >'$(DESTDIR)$(MANDIR)/man3/wwvb.3'
+	for page in $(PROGRAMS:%=man1/%.1) man3/wwvb.3; do \
+	    sed -e 's|@VERSION@|$(VERSION)|' "man/$${page#*/}" >'$(DESTDIR)$(MANDIR)/'"$$page" && \
+	    chmod 644 '$(DESTDIR)$(MANDIR)/'"$$page" || exit 1; done
 	sed -e 's|@PREFIX@|$(PREFIX)|' -e 's|@INCLUDEDIR@|$(call relative,$(INCLUDEDIR))|' \
 	    -e 's|@LIBDIR@|$(call relative,$(LIBDIR))|' -e 's|@VERSION@|$(VERSION)|' \
 	    wwvb.pc.in >'$(DESTDIR)$(PKGCONFIGDIR)/wwvb.pc'
-	chmod 644 '$(DESTDIR)$(MANDIR)/man1/station.1' '$(DESTDIR)$(MANDIR)/man3/wwvb.3' '$(DESTDIR)$(PKGCONFIGDIR)/wwvb.pc'
+	chmod 644 '$(DESTDIR)$(PKGCONFIGDIR)/wwvb.pc'
 
 uninstall:
-	rm -f '$(DESTDIR)$(BINDIR)/station' '$(DESTDIR)$(INCLUDEDIR)/wwvb.h' '$(DESTDIR)$(LIBDIR)/libwwvb.a' \
+	rm -f $(PROGRAMS:%='$(DESTDIR)$(BINDIR)/%') $(PROGRAMS:%='$(DESTDIR)$(MANDIR)/man1/%.1') \
+	    '$(DESTDIR)$(INCLUDEDIR)/wwvb.h' '$(DESTDIR)$(LIBDIR)/libwwvb.a' \
 	    '$(DESTDIR)$(LIBDIR)/libwwvb.so' '$(DESTDIR)$(LIBDIR)/libwwvb.so.$(MAJOR)' '$(DESTDIR)$(LIBDIR)/libwwvb.so.$(VERSION)' \
-	    '$(DESTDIR)$(PKGCONFIGDIR)/wwvb.pc' '$(DESTDIR)$(MANDIR)/man1/station.1' '$(DESTDIR)$(MANDIR)/man3/wwvb.3'
+	    '$(DESTDIR)$(PKGCONFIGDIR)/wwvb.pc' '$(DESTDIR)$(MANDIR)/man3/wwvb.3'
 
 clean:
 	rm -rf target

@@ -21,9 +21,10 @@
 #define FRAMES 10000u
 
 static const struct codec library = {
-    "library", wwvb_write_recording, wwvb_read_frame, wwvb_read_recording, wwvb_minute_to_date,
-    wwvb_minute_to_date, wwvb_date_to_minute, wwvb_local_date, wwvb_write_amplitude,
-    wwvb_write_amplitude, wwvb_read_amplitude, wwvb_read_amplitude,
+    "library", wwvb_write_recording, wwvb_read_frame, wwvb_read_recording, wwvb_print_pages,
+    wwvb_print_pages, wwvb_minute_to_date, wwvb_minute_to_date, wwvb_date_to_minute,
+    wwvb_local_date, wwvb_write_amplitude, wwvb_write_amplitude, wwvb_read_amplitude,
+    wwvb_read_amplitude,
 };
 
 #define CODEC(name) extern const struct codec name;
@@ -39,6 +40,7 @@ static const struct codec *const codecs[] = {&library, PLAINS};
 static uint8_t input[WWVB_MAX_RECORDING];
 static uint8_t bits[2][WWVB_MAX_RECORDING];
 static uint8_t entries[2][WWVB_MAX_COUNT * WWVB_ENTRY_SIZE];
+static uint8_t pages[2][WWVB_MAX_COUNT / WWVB_PAGE_ENTRIES * WWVB_PAGE_SIZE + 1];
 static uint32_t sink;
 
 static double now(void)
@@ -97,6 +99,28 @@ static size_t read_frames(const struct codec *c, uint32_t n)
         sink += (uint32_t)r.used + r.refusal;
     }
     return done;
+}
+
+/* Fewer than of the other items: snprintf takes its time. */
+static size_t pages_printed_by(print_pages_call *call, uint32_t n)
+{
+    uint32_t done;
+
+    for (done = 0; done < FRAMES / 5; done += n) {
+        wwvb_print_reply r = call(input, n * 60, pages[0], sizeof pages[0]);
+        sink += (uint32_t)r.bytes + r.refusal + pages[0][done % WWVB_PAGE_SIZE];
+    }
+    return done;
+}
+
+static size_t print_frames(const struct codec *c, uint32_t n)
+{
+    return pages_printed_by(c->print_pages, n);
+}
+
+static size_t print_frames_by_hand(const struct codec *c, uint32_t n)
+{
+    return pages_printed_by(c->hand_print_pages, n);
 }
 
 static size_t read_alone(const struct codec *c, uint32_t n)
@@ -476,6 +500,61 @@ static void refused_messages_all(void)
     }
 }
 
+/* Prints `input` by each codec, with snprintf and by hand, the library first, with so many bytes
+   of space; gives the library's answer. */
+static wwvb_print_reply print_all(size_t length, size_t space)
+{
+    wwvb_print_reply r[2];
+    size_t k;
+
+    for (k = 0; k < 2 * CODECS; k++) {
+        const struct codec *c = codecs[k / 2];
+        size_t j = k > 0;
+
+        memset(pages[j], 9, sizeof pages[j]);
+        r[j] = (k % 2 ? c->hand_print_pages : c->print_pages)(input, length, pages[j], space);
+        if (memcmp(&r[0], &r[j], sizeof r[0]) || memcmp(pages[0], pages[j], sizeof pages[0]))
+            differ(c, k % 2 ? "printing by hand" : "printing");
+    }
+    return r[0];
+}
+
+/* The same with space for all the pages, with a byte more and less, and without a page. */
+static void print_spaces(size_t length, size_t entries_due)
+{
+    size_t enough = wwvb_pages_size(entries_due);
+
+    if (print_all(length, enough).bytes != enough || print_all(length, enough + 1).bytes != enough
+        || (enough && print_all(length, enough - 1).refusal != WWVB_NO_BIT_SPACE)
+        || (enough && print_all(length, 0).refusal != WWVB_NO_BIT_SPACE))
+        differ(&library, "the pages of a number of entries");
+}
+
+/* Pages by each codec. `input` has 1,000 frames: the first of them, up to each number. Then six
+   minutes with messages at a month's end, with each bit inverted and cut off after each. */
+static void pages_all(void)
+{
+    uint32_t n, i, k, minutes[WWVB_MAX_MESSAGES];
+    size_t length;
+
+    for (n = 0; n <= 1000; n += n < 110 || n >= 990 ? 1 : 10)
+        print_spaces(n * 60, n);
+    for (k = 0; k < 12; k++) {
+        for (i = 0; i < WWVB_MAX_MESSAGES; i++)
+            minutes[i] = 6573597 + k / 3 + i;
+        set_messages(minutes);
+        length = write_six(k % 5 * 10, 149, (int32_t)(k % 3) - 1, 6573596);
+        print_spaces(length, 6);
+        for (i = 0; i < length; i++) {
+            print_all(i, i % 2 ? WWVB_PAGE_SIZE : 0);
+            input[i] ^= 1;
+            print_all(length, i % 2 ? WWVB_PAGE_SIZE : 0);
+            print_all(length, i % 2 ? 0 : WWVB_PAGE_SIZE);
+            input[i] ^= 1;
+        }
+    }
+}
+
 static void date_all(void)
 {
     uint32_t i;
@@ -737,6 +816,13 @@ int main(void)
     write_four_messages();
     read_all(1000);
     measure("read, four messages", read_frames, 1000);
+
+    pages_all();
+    write_four_messages();
+    for (f = 50; f <= 1000; f += 950) {
+        measure("frame printed, C with snprintf", print_frames, f);
+        measure("frame printed, C by hand", print_frames_by_hand, f);
+    }
 
     prepare_dates();
     date_all();

@@ -3,14 +3,16 @@
  * words by tables and their inverses, bits moved one at a time, the calendar by cycles of four years, and the plan
  * asked anew for each frame. The writer keeps the next message, and the reader the last leap
  * state. In the amplitude code one table has what each second is, and symbols are checked and moved
- * one at a time. The functions fast_.. are other versions, written for speed alone, with rows of
- * their own.
+ * one at a time. Pages are printed in two passes over the bits, without space for the entries, once
+ * with snprintf and once by hand. The functions fast_.. are other versions, written for speed
+ * alone, with rows of their own.
  *
  * PLAIN names the codec that this file makes and PLAIN_LABEL is its column's heading, so that one program can hold it
  * several times, each built by another compiler or with other flags.
  */
 #include "plain.h"
 
+#include <stdio.h>
 #include <string.h>
 
 #define SYNC 0x768u          /* 0011101101000 */
@@ -568,6 +570,161 @@ static wwvb_read_reply read_recording(const uint8_t *bits, size_t bits_length, u
     return r;
 }
 
+/* ---- pages: one pass over the bits counts and refuses, and another prints */
+
+#define LINE 42u /* 41 characters and a line feed */
+
+/* Counts the entries of a recording, and gives the refusal. */
+static unsigned count_entries(const uint8_t *bits, size_t bits_length, size_t *n)
+{
+    struct due due = {0, 0, 0, 0};
+    uint8_t entry[WWVB_ENTRY_SIZE];
+    size_t used = 0;
+    unsigned refusal;
+
+    if (!ready)
+        fill_tables();
+    for (*n = 0; used < bits_length; ++*n) {
+        refusal = read_next(bits + used, bits_length - used, 0, entry, &due);
+        if (refusal)
+            return refusal;
+        used += entry[4];
+    }
+    return WWVB_OK;
+}
+
+/* The page's number, the dashes, and blanks for all its entries. */
+typedef void put_empty_page(uint8_t *page, size_t number);
+typedef void put_line(uint8_t *line, const uint8_t *entry);
+
+static inline wwvb_print_reply print_by(put_empty_page *empty_page, put_line *line,
+                                        const uint8_t *bits, size_t bits_length, uint8_t *out,
+                                        size_t out_length)
+{
+    wwvb_print_reply r = {0, 0};
+    struct due due = {0, 0, 0, 0};
+    uint8_t entry[WWVB_ENTRY_SIZE];
+    size_t n, i, used = 0;
+
+    r.refusal = count_entries(bits, bits_length, &n);
+    if (r.refusal == WWVB_OK && wwvb_pages_size(n) > out_length)
+        r.refusal = WWVB_NO_BIT_SPACE;
+    if (r.refusal)
+        return r;
+    for (i = 0; i < n; i++) {
+        if (i % WWVB_PAGE_ENTRIES == 0) {
+            empty_page(out, i / WWVB_PAGE_ENTRIES + 1);
+            out += 2 * LINE;
+        }
+        read_next(bits + used, bits_length - used, 0, entry, &due);
+        used += entry[4];
+        line(out, entry);
+        out += LINE;
+    }
+    r.bytes = wwvb_pages_size(n);
+    return r;
+}
+
+static void snprintf_empty_page(uint8_t *page, size_t number)
+{
+    char line[64];
+    size_t i;
+
+    snprintf(line, sizeof line, "%41lu\n", (unsigned long)number);
+    memcpy(page, line, LINE);
+    memcpy(page + LINE, "-----------------------------------------\n", LINE);
+    snprintf(line, sizeof line, "%41s\n", "");
+    for (i = 2; i < WWVB_PAGE_ENTRIES + 2; i++)
+        memcpy(page + i * LINE, line, LINE);
+}
+
+static void snprintf_line(uint8_t *out, const uint8_t *e)
+{
+    uint32_t minute = (uint32_t)number_in(e, 4);
+    wwvb_date_reply d = minute_to_date(minute);
+    char line[128];
+
+    if (e[11])
+        snprintf(line, sizeof line, "%8u %04u-%02u-%02u %02u:%02u %2u    M        \n",
+                 (unsigned)minute, (unsigned)d.year, (unsigned)d.month, (unsigned)d.day,
+                 (unsigned)d.hour, (unsigned)d.minute, e[4]);
+    else
+        snprintf(line, sizeof line, "%8u %04u-%02u-%02u %02u:%02u %2u %u%u %c %2u %2u %u\n",
+                 (unsigned)minute, (unsigned)d.year, (unsigned)d.month, (unsigned)d.day,
+                 (unsigned)d.hour, (unsigned)d.minute, e[4], e[5] / 2u, e[5] % 2u, " -+"[e[6]],
+                 e[7], e[9], e[10]);
+    memcpy(out, line, LINE);
+}
+
+static wwvb_print_reply print_pages(const uint8_t *bits, size_t bits_length, uint8_t *out,
+                                    size_t out_length)
+{
+    return print_by(snprintf_empty_page, snprintf_line, bits, bits_length, out, out_length);
+}
+
+/* The same by hand: digits by division. */
+
+/* A number that ends before a byte; blanks before it are there already. */
+static void put_number(uint8_t *end, size_t number)
+{
+    do {
+        *--end = (uint8_t)('0' + number % 10);
+        number /= 10;
+    } while (number);
+}
+
+/* Two digits, with a zero before one. */
+static void put_two(uint8_t *out, uint32_t number)
+{
+    out[0] = (uint8_t)('0' + number / 10);
+    out[1] = (uint8_t)('0' + number % 10);
+}
+
+static void hand_empty_page(uint8_t *page, size_t number)
+{
+    size_t i;
+
+    memset(page, ' ', WWVB_PAGE_SIZE);
+    memset(page + LINE, '-', LINE);
+    put_number(page + LINE - 1, number);
+    for (i = 1; i <= WWVB_PAGE_ENTRIES + 2; i++)
+        page[i * LINE - 1] = '\n';
+}
+
+static void hand_line(uint8_t *out, const uint8_t *e)
+{
+    uint32_t minute = (uint32_t)number_in(e, 4);
+    wwvb_date_reply d = minute_to_date(minute);
+
+    put_number(out + 8, minute);
+    put_two(out + 9, d.year / 100);
+    put_two(out + 11, d.year % 100);
+    out[13] = '-';
+    put_two(out + 14, d.month);
+    out[16] = '-';
+    put_two(out + 17, d.day);
+    put_two(out + 20, d.hour);
+    out[22] = ':';
+    put_two(out + 23, d.minute);
+    put_two(out + 26, e[4]);
+    if (e[11]) {
+        out[32] = 'M';
+        return;
+    }
+    out[29] = (uint8_t)('0' + e[5] / 2);
+    out[30] = (uint8_t)('0' + e[5] % 2);
+    out[32] = (uint8_t)" -+"[e[6]];
+    put_number(out + 36, e[7]);
+    put_number(out + 39, e[9]);
+    out[40] = (uint8_t)('0' + e[10]);
+}
+
+static wwvb_print_reply hand_print_pages(const uint8_t *bits, size_t bits_length, uint8_t *out,
+                                         size_t out_length)
+{
+    return print_by(hand_empty_page, hand_line, bits, bits_length, out, out_length);
+}
+
 /* ---- the amplitude code */
 
 /* What a second is; the number is the largest symbol that may stand there. */
@@ -852,7 +1009,7 @@ static wwvb_amplitude_reply fast_read_amplitude(const uint8_t *s, size_t length)
 }
 
 const struct codec PLAIN = {
-    PLAIN_LABEL, write_recording, read_frame, read_recording, minute_to_date, fast_minute_to_date,
-    date_to_minute, local_date, write_amplitude, fast_write_amplitude, read_amplitude,
-    fast_read_amplitude,
+    PLAIN_LABEL, write_recording, read_frame, read_recording, print_pages, hand_print_pages,
+    minute_to_date, fast_minute_to_date, date_to_minute, local_date, write_amplitude,
+    fast_write_amplitude, read_amplitude, fast_read_amplitude,
 };

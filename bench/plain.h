@@ -21,16 +21,20 @@ typedef wwvb_write_reply write_amplitude_call(uint32_t kind, uint32_t spring, ui
                                               size_t messages_length, uint32_t minute,
                                               int32_t ut1_sign, uint32_t ut1_tenths, uint8_t *out,
                                               size_t out_length);
+typedef wwvb_print_reply print_pages_call(const uint8_t *bits, size_t bits_length, uint8_t *out,
+                                          size_t out_length);
 typedef wwvb_amplitude_reply read_amplitude_call(const uint8_t *symbols, size_t symbols_length);
 
-/* The calls of the library that are measured. A call fast_.. is one written for speed alone; of the library it is the
-   call without fast_. */
+/* The calls of the library that are measured. A call fast_.. is one written for speed alone, and hand_.. one without
+   snprintf; of the library it is the call without this. */
 struct codec {
     const char *label;
     write_recording_call *write_recording;
     uint32_t (*read_frame)(const uint8_t *bits, size_t bits_length, uint8_t *entry,
                            size_t entry_length);
     wwvb_read_reply (*read_recording)(const uint8_t *bits, size_t bits_length, uint8_t *entries, size_t entries_length);
+    print_pages_call *print_pages;
+    print_pages_call *hand_print_pages;
     wwvb_date_reply (*minute_to_date)(uint32_t minute);
     wwvb_date_reply (*fast_minute_to_date)(uint32_t minute);
     wwvb_minute_reply (*date_to_minute)(uint32_t year, uint32_t month, uint32_t day, uint32_t hour, uint32_t minute);

@@ -1,7 +1,7 @@
 /*
  * wwvb.h: the two codes of WWVB, written and read, and dates and local dates. The phase code has
- * one bit a second and comes in recordings of frames. The amplitude code is written and read one
- * minute a call. C99 or later, C++11 or later.
+ * one bit a second and comes in recordings of frames, which can be printed as pages. The amplitude
+ * code is written and read one minute a call. C99 or later, C++11 or later.
  * SPDX-License-Identifier: Apache-2.0
  *
  * A bit is a byte of value 0 or 1, the first sent first. A frame is one minute: 60 bits, or 59 or
@@ -37,8 +37,8 @@
  * The amplitude code has no check bits: one wrong symbol can make another legal minute, which is
  * not refused. It is for wall clocks; do not base decisions on its minutes.
  *
- * The library has eight calls. Everything else is static inline in this file: structs for plans
- * and entries, names and texts of refusals.
+ * The library has nine calls. Everything else is static inline in this file: structs for plans
+ * and entries, the size of pages, names and texts of refusals.
  */
 #ifndef WWVB_H
 #define WWVB_H
@@ -55,9 +55,9 @@
  * neither, so it is enough to compile again. Anything else raises PATCH.
  */
 #define WWVB_VERSION_MAJOR 1
-#define WWVB_VERSION_MINOR 0
+#define WWVB_VERSION_MINOR 1
 #define WWVB_VERSION_PATCH 0
-#define WWVB_VERSION "1.0.0"
+#define WWVB_VERSION "1.1.0"
 
 /* A result that must not be ignored; the compiler warns where it can. */
 #if (defined(__cplusplus) && __cplusplus >= 201703L) || \
@@ -88,6 +88,9 @@ extern "C" {
 #define WWVB_MAX_RECORDING 60001u
 /* Bytes of an entry. */
 #define WWVB_ENTRY_SIZE 18u
+/* Entries on a page, and bytes of a page: 52 lines of 41 characters and a line feed. */
+#define WWVB_PAGE_ENTRIES 50u
+#define WWVB_PAGE_SIZE 2184u
 /* Messages of a plan: at most WWVB_MAX_MESSAGES. */
 #define WWVB_MAX_MESSAGES 4u
 /* Bytes of a message, as wwvb_write_recording and wwvb_write_amplitude take it. */
@@ -101,15 +104,17 @@ extern "C" {
 
 /* Writing means wwvb_write_recording, wwvb_write_amplitude and their inline forms;
    wwvb_write_amplitude makes no check 2. Reading means wwvb_read_frame and wwvb_read_recording.
-   The latter makes the checks for each frame. Comments name the amplitude code where they are
-   about it. */
+   The latter makes the checks for each frame. Printing means wwvb_print_pages; it makes the checks
+   of wwvb_read_recording but 5, and then 4. Comments name the amplitude code where they are about
+   it. */
 enum wwvb_refusal {
     WWVB_OK = 0,               /* every check passed */
     WWVB_ILLEGAL_PLAN = 1,     /* writing: the plan, or one of its messages, is not legal */
     WWVB_BAD_COUNT = 2,        /* writing a recording: the count is not 1 to 1,000 */
     WWVB_MINUTE_TOO_LARGE = 3, /* writing: the minute, or the last of a recording, is past
                                   52,595,999; minute to date, local date: the minute is */
-    WWVB_NO_BIT_SPACE = 4,     /* writing: the buffer does not hold all the bits or symbols */
+    WWVB_NO_BIT_SPACE = 4,     /* writing: the buffer does not hold all the bits or symbols;
+                                  printing: it does not hold all the pages */
     WWVB_NO_ENTRY_SPACE = 5,   /* reading: fewer than WWVB_ENTRY_SIZE entry bytes are free */
     WWVB_TOO_SHORT = 6,        /* reading: fewer than 59 bits are left */
     WWVB_NOT_BITS = 7,         /* reading: one of the first 59 bytes is not 0 or 1 */
@@ -146,7 +151,7 @@ enum wwvb_refusal {
     X(WWVB_ILLEGAL_PLAN, "The plan, or one of its messages, is not legal.") \
     X(WWVB_BAD_COUNT, "The number of frames is not 1 to 1,000.") \
     X(WWVB_MINUTE_TOO_LARGE, "The minute is after 2099-12-31 23:59.") \
-    X(WWVB_NO_BIT_SPACE, "The buffer does not hold all the bits or symbols.") \
+    X(WWVB_NO_BIT_SPACE, "The buffer does not hold all the bits, symbols or pages.") \
     X(WWVB_NO_ENTRY_SPACE, "The buffer has no space for another entry.") \
     X(WWVB_TOO_SHORT, "Fewer than 59 bits are left, and a frame has at least 59.") \
     X(WWVB_NOT_BITS, "A byte of the frame is neither 0 nor 1.") \
@@ -291,6 +296,13 @@ typedef struct wwvb_read_reply {
     size_t refusal;
 } wwvb_read_reply;
 
+/* The refusal (0, 4, 6 to 11, 13, 14, 19 or 20), and the number of bytes of all pages; refused,
+   the bytes are 0. */
+typedef struct wwvb_print_reply {
+    size_t refusal;
+    size_t bytes;
+} wwvb_print_reply;
+
 /* The refusal (0, 17 or 18), and what a minute of the amplitude code says; refused, every other
    field is 0. */
 typedef struct wwvb_amplitude_reply {
@@ -409,6 +421,34 @@ WWVB_MUST_USE uint32_t wwvb_read_frame(const uint8_t *bits, size_t bits_length, 
  */
 WWVB_MUST_USE wwvb_read_reply wwvb_read_recording(const uint8_t *bits, size_t bits_length,
                                                   uint8_t *entries, size_t entries_length);
+
+/*
+ * Prints the entries of a recording, which begins at a frame's first bit, as pages of text. A page
+ * has 52 lines of 41 characters and a line feed each, WWVB_PAGE_SIZE bytes, all of them ASCII:
+ *   its number from 1, right-aligned; then 41 dashes; then 50 lines, one for each entry in order
+ * Lines without an entry, on the last page, are blanks. The columns, with one space between:
+ *   minute    8 characters
+ *   date     10, as in 2012-07-04
+ *   time      5, as in 17:30, in UTC like the date
+ *   length    2
+ *   daylight  2, the bits dst_on[1] and dst_on[0]
+ *   leap      1: a blank for none, - for negative, + for positive, M for a message
+ *   row       2
+ *   place     2, 0 if nothing was repaired
+ *   echo      1
+ * Numbers are right-aligned, and filled with zeros in date and time alone. Of a message daylight,
+ * row, place and echo are blanks. Notice and data are not printed.
+ * The recording may have any number of frames. No bits at all give no page, 0 bytes and WWVB_OK,
+ * also with an `out_length` of 0.
+ * Refusals: first those of wwvb_read_recording, frame by frame in the same order, without
+ * WWVB_NO_ENTRY_SPACE (5); a recording that is refused in any frame is not printed. Then
+ * WWVB_NO_BIT_SPACE (4) if `out` does not hold all the pages. wwvb_pages_size gives the bytes for
+ * a number of entries; `wwvb_pages_size(bits_length / WWVB_MIN_FRAME)` is always enough.
+ * After the call `out` holds the pages from out[0] on, with no 0 after them, and every later byte
+ * is as before. Refused, every byte of `out` is as before.
+ */
+WWVB_MUST_USE wwvb_print_reply wwvb_print_pages(const uint8_t *bits, size_t bits_length,
+                                                uint8_t *out, size_t out_length);
 
 /*
  * Writes one minute in the amplitude code, a symbol a second, by a plan as above, and
@@ -610,6 +650,15 @@ WWVB_MUST_USE static inline wwvb_entry wwvb_entry_at(const uint8_t *entries, siz
     for (i = 0; i < 6; i++)
         entry.data = entry.data << 8 | d[i];
     return entry;
+}
+
+/* The bytes of the pages of so many entries. A recording has at most SIZE_MAX / WWVB_MIN_FRAME
+   entries, and up to that number the result is exact. */
+WWVB_MUST_USE static inline size_t wwvb_pages_size(size_t entries)
+{
+    size_t pages = entries / WWVB_PAGE_ENTRIES + (entries % WWVB_PAGE_ENTRIES != 0);
+
+    return pages * WWVB_PAGE_SIZE;
 }
 
 /*

@@ -4,6 +4,8 @@
  * be touched; buffer and guards are compared whole after the call, refused or not. Each number
  * that a call can give is seen, and no other; no call gives 12. Plans of each kind are written,
  * those of kind 3 by the earlier law and by their own rows, and plans with none to four messages.
+ * Pages are printed of none to a month of entries, with every value of the narrow columns and
+ * minutes of one to eight digits.
  *
  * usage: compare [CASES [SEED [exact]]]
  *   exact: buffers are blocks of malloc of just their length, for valgrind
@@ -24,12 +26,14 @@
 #define LONG_ROOM (60 * (MONTH + 4)) /* bytes of the longest buffer: a month of frames */
 #define MINUTES WWVB_MINUTES
 
-enum call { TO_DATE, TO_MINUTE, LOCAL, WRITE, ONE, READ, WRITE_AMPLITUDE, READ_AMPLITUDE, CALLS };
+enum call {
+    TO_DATE, TO_MINUTE, LOCAL, WRITE, ONE, READ, PRINT, WRITE_AMPLITUDE, READ_AMPLITUDE, CALLS
+};
 #define NUMBERS 21
 
 static const char *const call_names[CALLS] = {
     "wwvb_minute_to_date", "wwvb_date_to_minute", "wwvb_local_date",
-    "wwvb_write_recording", "wwvb_read_frame", "wwvb_read_recording",
+    "wwvb_write_recording", "wwvb_read_frame", "wwvb_read_recording", "wwvb_print_pages",
     "wwvb_write_amplitude", "wwvb_read_amplitude",
 };
 
@@ -45,6 +49,7 @@ static int can_give(enum call c, unsigned n)
     case WRITE: return n <= 4;
     case ONE: return n == 0 || (n >= 5 && n <= 13) || n == 19;
     case READ: return n == 0 || (n >= 5 && n <= 14) || n == 19 || n == 20;
+    case PRINT: return n == 4 || (n != 5 && can_give(READ, n));
     case WRITE_AMPLITUDE: return n == 0 || n == 1 || n == 3 || n == 4 || n == 18;
     default: return n == 0 || n == 17 || n == 18;
     }
@@ -54,6 +59,10 @@ static unsigned long seen[CALLS][NUMBERS]; /* by call and number */
 static unsigned long later[NUMBERS];       /* refusals of a recording's later frames */
 static unsigned long lengths[CALLS][62];
 static unsigned long message_lengths[62]; /* of messages that are read */
+static unsigned long page_digits[4];      /* pages by the digits of their number */
+static unsigned long minute_digits[9];    /* printed lines by the digits of their minute */
+static unsigned long leap_marks[4];       /* printed lines by the character under leap */
+static unsigned long lines_left[50];      /* accepted printings by their blank lines */
 static unsigned long message_counts[5];   /* accepted writings by the plan's number of messages */
 static unsigned long kinds[4]; /* accepted writings by the plan's kind */
 static unsigned long own_rows; /* those of kind 3 from 2007 on, by the plan's own rows */
@@ -396,6 +405,74 @@ static unsigned try_read(const uint8_t *bits, size_t length, size_t space)
         message_lengths[entry[WWVB_ENTRY_LENGTH]] += entry[WWVB_ENTRY_KIND];
     }
     return refusal;
+}
+
+static const char marks[] = " -+M";
+
+/* Counts what a line of an entry shows. */
+static void count_line(const uint8_t *line)
+{
+    unsigned digits = 8;
+
+    while (line[8 - digits] == ' ')
+        digits--;
+    minute_digits[digits]++;
+    leap_marks[strchr(marks, line[32]) - marks]++;
+    lengths[PRINT][line[26] * 10 + line[27] - '0' * 11]++;
+}
+
+/* Counts what the pages show that the reference has printed. */
+static void count_pages(const uint8_t *text, size_t pages)
+{
+    size_t left = 0, i, k;
+
+    for (i = 0; i < pages; i++, text += REF_PAGE) {
+        page_digits[i < 9 ? 1 : i < 99 ? 2 : 3]++;
+        for (k = 2; k < 52; k++)
+            if (text[k * REF_LINE + 7] != ' ')
+                count_line(text + k * REF_LINE);
+            else
+                left++;
+    }
+    lines_left[left]++;
+}
+
+/* Gives the number. */
+static unsigned try_print(const uint8_t *bits, size_t length, size_t space)
+{
+    size_t bytes = 0;
+    unsigned refusal;
+    wwvb_print_reply r;
+
+    lay(&in_buffer, bits, length);
+    lay_noise(&out_buffer, space);
+    refusal = ref_print_pages(in_buffer.want, length, out_buffer.want, space, &bytes);
+    r = wwvb_print_pages(in_buffer.at, length, out_buffer.at, space);
+    count(PRINT, r.refusal);
+    if (r.refusal != refusal)
+        fail(PRINT, "the number");
+    if (r.bytes != bytes)
+        fail(PRINT, "the number of bytes");
+    check(PRINT, &in_buffer, "the bits");
+    check(PRINT, &out_buffer, "the buffer");
+    if (refusal == 0)
+        count_pages(out_buffer.at, bytes / REF_PAGE);
+    return refusal;
+}
+
+/* A recording of so many entries with just enough space, a byte less and more, none, and any up to
+   a page more. Accepted, it needs all of it; refused, the refusal is the same with each. */
+static void try_spaces(const uint8_t *bits, size_t length, size_t entries)
+{
+    size_t enough = wwvb_pages_size(entries), i;
+    unsigned refusal = try_print(bits, length, enough);
+    size_t spaces[4] = {0, enough + 1, enough + below(REF_PAGE), 0};
+
+    spaces[3] = enough ? enough - 1 : 0;
+    for (i = 0; i < 4; i++)
+        if (try_print(bits, length, spaces[i])
+            != (refusal == 0 && spaces[i] < enough ? WWVB_NO_BIT_SPACE : refusal))
+            fail(PRINT, "the number with another space");
 }
 
 static void try_amplitude(const struct ref_plan *p, const struct messages *m, uint32_t minute,
@@ -875,13 +952,16 @@ static void random_one(void)
     try_one(scratch, length, space);
 }
 
-static void random_read(void)
+/* A recording of about n frames in `scratch`, whole or damaged; gives its length, and the most
+   entries that it was made for. */
+static size_t random_recording(uint32_t n, size_t *most)
 {
     struct ref_plan p = random_plan();
-    uint32_t n = few(), first = random_minute(&p), i;
+    uint32_t first = random_minute(&p), i;
     struct messages m = one_in(2) ? no_messages : random_messages(first, n);
-    size_t length = recording_with(&p, &m, first, n, scratch), space = (size_t)n * WWVB_ENTRY_SIZE;
+    size_t length = recording_with(&p, &m, first, n, scratch);
 
+    *most = n;
     if (one_in(3)) /* one bit of the time word in each frame, and any bits at 19, 29 and 39, while the frames have 60 bits */
         for (i = 0; i < n && (size_t)i * 60 + 60 <= length; i++) {
             if (one_in(2))
@@ -895,11 +975,18 @@ static void random_read(void)
         if (length + 61 * 4 < ROOM) {
             i = first + n + (one_in(2) ? 0 : below(3) - 1);
             length += recording_with(&p, &m, i, 1 + below(3), scratch + length);
-            space += 3 * WWVB_ENTRY_SIZE;
+            *most += 3;
         }
     }
     while (one_in(2) && length >= 61 && length + 128 < ROOM)
         length = damage(scratch, length, below((uint32_t)(length / 60)) * 60 + 59 <= length - 1 ? below((uint32_t)((length - 59) / 60 + 1)) * 60 : 0);
+    return length;
+}
+
+static void random_read(void)
+{
+    size_t most, length = random_recording(few(), &most), space = most * WWVB_ENTRY_SIZE;
+
     switch (below(12)) {
     case 0: space = below((uint32_t)space + 1); break;
     case 1: space += below(40); break;
@@ -907,6 +994,22 @@ static void random_read(void)
     default: break;
     }
     try_read(scratch, length, space);
+}
+
+/* Some recordings have a page or two. */
+static void random_print(void)
+{
+    uint32_t n = one_in(100) ? 48 + below(6) + 50 * below(2) : few();
+    size_t most, length = random_recording(n, &most), space = wwvb_pages_size(most);
+
+    switch (below(8)) {
+    case 0: space = below((uint32_t)space + 1); break;
+    case 1: space += below(100); break;
+    case 2: space = wwvb_pages_size(n); break;
+    case 3: space = wwvb_pages_size(n) - 1; break;
+    default: break;
+    }
+    try_print(scratch, length, space);
 }
 
 static int32_t random_sign(void)
@@ -2135,6 +2238,174 @@ static void boundary_unknown_length(void)
     }
 }
 
+/* ---- boundary cases of pages */
+
+/* So many frames, in order, from a minute on, in `month_bits`, by parts that can be written. One
+   bit of each time word may be inverted, and bit 19; messages stand in each part. Gives the
+   length. */
+static size_t long_recording(uint32_t first, uint32_t n, int whole)
+{
+    struct ref_plan p = random_plan();
+    size_t length = 0, at;
+    uint32_t i, part;
+
+    for (i = 0; i < n; i += part) {
+        struct messages m = no_messages;
+        uint32_t k;
+
+        part = n - i < 997 ? n - i : 997;
+        for (k = 1; k < 5 && k * 7 < part; k++)
+            add_message(&m, first + i + k * 7, random_data());
+        at = length;
+        length += recording_with(&p, &m, first + i, part, month_bits + length);
+        for (; !whole && at + 60 <= length; at += 60)
+            if (month_bits[at] == 0 && one_in(2)) { /* a time frame's sync word begins with 0 */
+                month_bits[at + ref_bit_of_place(1 + below(31))] ^= 1;
+                month_bits[at + 19] = below(2);
+            }
+    }
+    return length;
+}
+
+/* None to some thousand entries, about the limits of pages and of the digits of their numbers; for
+   valgrind up to some hundred. */
+static void boundary_page_counts(void)
+{
+    static const uint32_t counts[] = {
+        0, 1, 2, 48, 49, 50, 51, 52, 98, 99, 100, 101, 149, 150, 151, 449, 450, 451, 499, 500, 501,
+        999, 1000, 1001, 2500, 4949, 4950, 4951, 4999, 5000, 5001,
+    };
+    size_t i, n = sizeof counts / sizeof *counts;
+
+    for (i = 0; i < n && !(exact && counts[i] > 151); i++) {
+        size_t length = long_recording(below(MINUTES - 6000), counts[i], 1);
+
+        try_spaces(month_bits, length, counts[i]);
+        if (counts[i] > 0) { /* a bit lost, and one wrong, in the last frame */
+            try_spaces(month_bits, length - 1, counts[i]);
+            month_bits[length - 60] ^= 1;
+            try_spaces(month_bits, length, counts[i]);
+        }
+    }
+    for (i = 0; i < 120; i++) /* each number of blank lines, and damaged bits */
+        try_spaces(month_bits, long_recording(below(MINUTES - 200), (uint32_t)i, 0), i);
+}
+
+/* Minutes about each power of ten, and the first and the last. */
+static void boundary_page_minutes(void)
+{
+    uint32_t power, n;
+
+    for (power = 1; power < MINUTES; power *= 10)
+        for (n = 1; n <= 3; n++)
+            try_spaces(month_bits, long_recording(power - 1, n, 0), n);
+    try_spaces(month_bits, long_recording(0, 51, 0), 51);
+    try_spaces(month_bits, long_recording(MINUTES - 51, 51, 0), 51);
+}
+
+/* Every day, of every month and year, with the minute before it. */
+static void boundary_page_dates(void)
+{
+    struct ref_plan p = {0, 10, 37, 0, 0, 0};
+    uint32_t day;
+
+    for (day = 1; day < MINUTES / 1440; day++)
+        try_print(scratch, recording(&p, day * 1440 - 1, 2, scratch), REF_PAGE);
+    for (day = 0; day < 1440; day++) /* every minute of a day */
+        try_print(scratch, recording(&p, AFTERNOON + day, 1, scratch), REF_PAGE);
+}
+
+/* Every state word with every next-change word, in an ordinary minute and in the last of a month;
+   every place, with either echo; the three lengths, as a time frame and as a message. */
+static void boundary_page_columns(void)
+{
+    struct ref_plan p = {0, 10, 37, 149, 1, 1};
+    uint8_t bits[3 * WWVB_MAX_FRAME];
+    unsigned state, next, i;
+    size_t length;
+
+    for (state = 0; state < 32; state++)
+        for (next = 0; next < 64; next++)
+            for (length = 59; length <= 61; length++) {
+                memset(bits, 0, sizeof bits);
+                recording(&p, JUNE_ENDS + next % 2, 1, bits);
+                set_state(bits, state);
+                set_word(bits + 53, next, 6);
+                try_print(bits, length, REF_PAGE);
+            }
+    for (i = 0; i < 64; i++) {
+        length = recording(&p, AFTERNOON, 1, bits);
+        if (i / 2)
+            bits[ref_bit_of_place(i / 2)] ^= 1;
+        bits[19] ^= i % 2;
+        try_print(bits, length, REF_PAGE);
+    }
+    for (i = 0; i < 6; i++) {
+        int32_t sign = (int32_t)(i % 3) - 1;
+
+        length = june_frame(sign, JUNE_ENDS - 1, 0, bits);
+        length += june_frame(sign, JUNE_ENDS, i / 3 == 1, bits + length);
+        length += june_frame(sign, JUNE_ENDS + 1, 0, bits + length);
+        try_spaces(bits, length, 3);
+    }
+}
+
+/* Three frames, the second a message: each byte at other values, cut off after each, and without
+   the first bytes, with space enough and without. */
+static void boundary_page_refusals(void)
+{
+    static const uint8_t values[] = {0, 1, 2, 48, 255};
+    uint8_t bits[3 * WWVB_MAX_FRAME];
+    size_t i, v, length;
+    int32_t sign;
+
+    for (sign = -1; sign <= 1; sign++) {
+        length = june_frame(sign, JUNE_ENDS - 1, 0, bits);
+        length += june_frame(sign, JUNE_ENDS, 1, bits + length);
+        length += june_frame(sign, JUNE_ENDS + 1, 0, bits + length);
+        for (i = 0; i < length; i++)
+            for (v = 0; v < sizeof values; v++) {
+                uint8_t was = bits[i];
+
+                bits[i] = values[v];
+                try_print(bits, length, REF_PAGE);
+                try_print(bits, length, REF_PAGE - 1);
+                bits[i] = was;
+            }
+        for (i = 0; i <= length; i++)
+            for (v = 0; v < 2; v++) {
+                try_print(bits, i, v * REF_PAGE);
+                try_print(bits + i, length - i, v * REF_PAGE);
+            }
+    }
+}
+
+/* A month of messages: some 900 pages, and refused by 20. For valgrind once. */
+static void boundary_page_months(void)
+{
+    struct month m = lay_month(13, 1);
+    size_t entries = m.end - m.first;
+
+    try_print(month_bits, m.length, 0);
+    try_print(month_bits, m.last, wwvb_pages_size(entries));
+    if (exact)
+        return;
+    try_print(month_bits, m.length, wwvb_pages_size(entries + 1));
+    try_print(month_bits, m.last, wwvb_pages_size(entries) - 1);
+}
+
+static void boundary_pages(void)
+{
+    if (!exact) {
+        boundary_page_dates();
+        boundary_page_columns();
+        boundary_page_refusals();
+    }
+    boundary_page_minutes();
+    boundary_page_counts();
+    boundary_page_months();
+}
+
 /* ---- the bench table of document 01, with the row of document 02 that takes the place of 12 */
 
 static void expect(int ok, const char *what)
@@ -2254,6 +2525,24 @@ static int report(void)
         }
     printf("\n");
     missing += later[19] != 0;
+    printf("%-22s", "  pages by digits");
+    for (n = 1; n < 4; n++) {
+        printf(" %u:%lu", n, page_digits[n]);
+        missing += page_digits[n] == 0;
+    }
+    printf("\n%-22s", "  lines by digits");
+    for (n = 1; n < 9; n++) {
+        printf(" %u:%lu", n, minute_digits[n]);
+        missing += minute_digits[n] == 0;
+    }
+    printf("\n%-22s", "  lines by leap");
+    for (n = 0; n < 4; n++) {
+        printf(" '%c':%lu", marks[n], leap_marks[n]);
+        missing += leap_marks[n] == 0;
+    }
+    printf("\n");
+    for (n = 0; n < 50; n++)
+        missing += lines_left[n] == 0;
     for (c = WRITE; c < CALLS; c++) {
         printf("%-22s lengths", call_names[c]);
         for (n = 59; n <= 61; n++) {
@@ -2321,6 +2610,7 @@ int main(int argc, char **argv)
     }
     boundary_recordings();
     boundary_unknown_length();
+    boundary_pages();
     boundary = cases;
     while (cases - boundary < wanted) {
         random_dates();
@@ -2328,6 +2618,7 @@ int main(int argc, char **argv)
         random_write();
         random_one();
         random_read();
+        random_print();
         random_write_amplitude();
         random_read_amplitude();
     }

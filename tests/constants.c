@@ -159,6 +159,61 @@ static void message_limits(void)
     CHECK(wwvb_write(&plan, 0, 1, bits, sizeof bits).refusal == WWVB_ILLEGAL_PLAN);
 }
 
+/* The page of one entry, and how many entries there are on a page. */
+static void page_limits(void)
+{
+    static uint8_t text[3 * 2184];
+    size_t n = written(0, 6578970, 101, sizeof bits).bits, i;
+
+    CHECK(n == 101 * 60);
+    memset(text, 99, sizeof text);
+    CHECK(wwvb_print_pages(bits, 60, text, WWVB_PAGE_SIZE - 1).refusal == WWVB_NO_BIT_SPACE);
+    CHECK(text[0] == 99);
+    CHECK(wwvb_print_pages(bits, 60, text, sizeof text).refusal == WWVB_OK);
+    for (i = 0; i < sizeof text; i++)
+        CHECK((text[i] == 99) == (i >= WWVB_PAGE_SIZE));
+    CHECK(memcmp(text + 84, " 6578970 2012-07-04 17:30 60 00   50  0 1\n", 42) == 0);
+    CHECK(wwvb_print_pages(bits, 60 * WWVB_PAGE_ENTRIES, text, sizeof text).bytes ==
+          WWVB_PAGE_SIZE);
+    CHECK(wwvb_print_pages(bits, 60 * (WWVB_PAGE_ENTRIES + 1), text, sizeof text).bytes ==
+          2 * WWVB_PAGE_SIZE);
+    for (i = 0; i <= 101; i++) {
+        size_t size = wwvb_pages_size(i);
+
+        CHECK(size == (i + 49) / 50 * 2184);
+        CHECK(wwvb_print_pages(bits, i * 60, text, size).bytes == size);
+        CHECK(size == 0 ||
+              wwvb_print_pages(bits, i * 60, text, size - 1).refusal == WWVB_NO_BIT_SPACE);
+    }
+    /* the most that a recording can have: the product is still exact */
+    CHECK(wwvb_pages_size(SIZE_MAX / 59) / 2184 == (SIZE_MAX / 59 + 49) / 50);
+}
+
+/* The refusals of printing: those of reading come first, whatever the space. */
+static void page_refusals(void)
+{
+    uint8_t text[2184];
+    wwvb_print_reply p;
+    size_t n = written(0, 5, 2, sizeof bits).bits, i;
+
+    memset(text, 99, sizeof text);
+    bits[119] = 1;
+    p = wwvb_print_pages(bits, n, text, 0);
+    CHECK(p.refusal == WWVB_BAD_LENGTH && p.bytes == 0);
+    p = wwvb_print_pages(bits, n, text, sizeof text);
+    CHECK(p.refusal == WWVB_BAD_LENGTH && p.bytes == 0);
+    p = wwvb_print_pages(bits, n - 2, text, sizeof text);
+    CHECK(p.refusal == WWVB_TOO_SHORT && p.bytes == 0);
+    p = wwvb_print_pages(bits, 60, text, sizeof text - 1);
+    CHECK(p.refusal == WWVB_NO_BIT_SPACE && p.bytes == 0);
+    p = wwvb_print_pages(bits, 0, text, sizeof text);
+    CHECK(p.refusal == WWVB_OK && p.bytes == 0);
+    for (i = 0; i < sizeof text; i++)
+        CHECK(text[i] == 99);
+    p = wwvb_print_pages(bits, 60, text, sizeof text);
+    CHECK(p.refusal == WWVB_OK && p.bytes == sizeof text);
+}
+
 static void refusals(void)
 {
     uint8_t entry[18];
@@ -665,7 +720,9 @@ int main(void)
 {
     limits();
     message_limits();
+    page_limits();
     refusals();
+    page_refusals();
     message_refusals();
     unknown_length();
     amplitude_refusals();

@@ -32,7 +32,7 @@
 #define NAMED 20     /* failed cases that are named */
 #define GUARD 64     /* guard bytes on either side of a buffer */
 #define LONGER 40    /* bytes more, where a call is tried again with a longer buffer */
-#define MOST 1000000 /* the longest buffer that a line may ask for */
+#define MOST 2000000 /* the longest buffer that a line may ask for */
 #define MESSAGES 100 /* the most messages of a plan that a line may have */
 #define RUN 100000   /* the most frames of a run */
 
@@ -307,6 +307,12 @@ static struct buffer buffer_of(const uint8_t *bytes, size_t length)
     return b;
 }
 
+static void give_back(struct buffer *b)
+{
+    free(b->at - GUARD);
+    free(b->before);
+}
+
 /* Says whether a byte is changed that is not one of the first n; gives the buffer back. */
 static void done_with(struct buffer *b, size_t n, struct text *got)
 {
@@ -319,8 +325,7 @@ static void done_with(struct buffer *b, size_t n, struct text *got)
     if (memcmp(all, before, GUARD) != 0
         || memcmp(b->at + b->length, before + GUARD + b->length, GUARD) != 0)
         say(got, ", and a byte beside the buffer is changed");
-    free(b->at - GUARD);
-    free(b->before);
+    give_back(b);
 }
 
 /* ---- plans */
@@ -817,6 +822,24 @@ static struct bytes with_run(const struct bytes *bits, const struct bytes *tail)
     return b;
 }
 
+/* BITS FIRST NOTICE DATA TIMES TAIL: the run, and the recording with it. */
+static struct bytes run(struct line *l)
+{
+    struct bytes bits = symbols(l), tail, all = {NULL, 0};
+
+    the_run.from = bits.length;
+    the_run.first = number(l);
+    the_run.notice = number_to(l, 1);
+    the_run.data = digits_of(l, word(l), WWVB_DATA_LIMIT - 1);
+    the_run.times = number_to(l, RUN);
+    tail = symbols(l);
+    if (!l->fault)
+        all = with_run(&bits, &tail);
+    free(tail.at);
+    free(bits.at);
+    return all;
+}
+
 /* The answer has the last entry alone, so the others are looked at here: the minutes rise by one,
    and the entries of the run have its notice and its data. */
 static void say_run_faults(const uint8_t *entries, size_t n, struct text *got)
@@ -857,23 +880,168 @@ static size_t say_run(const struct bytes *b, size_t length, struct text *got)
    TAIL. */
 static void read_run(struct line *l, struct text *got)
 {
-    struct bytes bits = symbols(l), tail, all;
-    size_t length;
+    struct bytes all = run(l);
+    size_t length = space(l);
 
-    the_run.from = bits.length;
-    the_run.first = number(l);
-    the_run.notice = number_to(l, 1);
-    the_run.data = digits_of(l, word(l), WWVB_DATA_LIMIT - 1);
-    the_run.times = number_to(l, RUN);
-    tail = symbols(l);
-    length = space(l);
-    if (inputs_end(l)) {
-        all = with_run(&bits, &tail);
+    if (inputs_end(l))
         play_reading(&all, length, say_run, got);
-        free(all.at);
+    free(all.at);
+}
+
+/* ---- pages */
+
+#define LINE 42 /* bytes of a line: 41 characters and a line feed */
+
+/* Bytes without the lines at their end that have blanks alone. Bytes that are not whole lines are
+   left as they are. */
+static size_t without_blank_lines(const uint8_t *text, size_t n)
+{
+    char blank[LINE + 1];
+
+    snprintf(blank, sizeof blank, "%41s\n", "");
+    if (n % LINE == 0)
+        while (n > 0 && memcmp(text + n - LINE, blank, LINE) == 0)
+            n -= LINE;
+    return n;
+}
+
+/* Prints the pages of bits to so many bytes and says the answer; gives the refusal. */
+typedef size_t say_print(const struct bytes *b, size_t length, struct text *got);
+
+/* What is accepted is printed to a longer buffer too, with the same answer. So is what is refused,
+   but by 4, to an empty buffer; if that was tried, to a longer one. */
+static void play_printing(const struct bytes *b, size_t length, say_print *printing,
+                          struct text *got)
+{
+    struct text again = {NULL, 0, 0};
+    size_t refusal = printing(b, length, got);
+
+    if (refusal == WWVB_NO_BIT_SPACE)
+        return;
+    clear(&again);
+    printing(b, refusal && length ? 0 : length + LONGER, &again);
+    if (strcmp(got->at, again.at) != 0)
+        say(got, ", and in another buffer %s", again.at);
+    free(again.at);
+}
+
+/* The bits, then the buffer's length, then the answer. */
+static void take_printing(struct line *l, struct bytes b, say_print *printing, struct text *got)
+{
+    size_t length = space(l);
+
+    if (inputs_end(l))
+        play_printing(&b, length, printing, got);
+    free(b.at);
+}
+
+/* Of the text, what is before `from` is not said. */
+static void say_text(const uint8_t *text, size_t from, size_t n, struct text *got)
+{
+    size_t end = without_blank_lines(text, n);
+
+    say_hex(got, text + (from < end ? from : 0), from < end ? end - from : 0);
+}
+
+static size_t say_pages(const struct bytes *b, size_t length, struct text *got)
+{
+    struct buffer in = buffer_of(b->at, b->length), out = buffer_of(NULL, length);
+    wwvb_print_reply r = wwvb_print_pages(in.at, in.length, out.at, out.length);
+    size_t bytes = r.bytes <= length ? r.bytes : length;
+
+    say(got, "%zu %zu ", r.refusal, r.bytes);
+    say_text(out.at, 0, bytes, got);
+    done_with(&out, r.refusal ? 0 : bytes, got);
+    done_with(&in, 0, got);
+    return r.refusal;
+}
+
+/* print-pages BITS BUFFER-LENGTH = REFUSAL COUNT TEXT-IN-HEX
+   The text ends with its last line that is not blank. After it are blank lines alone, up to
+   COUNT. */
+static void print_pages(struct line *l, struct text *got)
+{
+    take_printing(l, symbols(l), say_pages, got);
+}
+
+/* print-pages-bytes HEX BUFFER-LENGTH, with the same answers */
+static void print_pages_bytes(struct line *l, struct text *got)
+{
+    take_printing(l, hex(l), say_pages, got);
+}
+
+/* The line of an entry, or blanks where there is none. */
+static void line_of(const wwvb_entry *e, char line[LINE + 1])
+{
+    wwvb_date_reply d = wwvb_minute_to_date(e ? e->minute : 0);
+    char text[200], rest[60];
+
+    if (e && e->kind == WWVB_ENTRY_MESSAGE)
+        snprintf(rest, sizeof rest, "%5s%9s", "M", "");
+    else if (e)
+        snprintf(rest, sizeof rest,
+                 " %" PRIu32 "%" PRIu32 " %c %2" PRIu32 " %2" PRIu32 " %" PRIu32,
+                 e->daylight / 2, e->daylight % 2, e->leap < 3 ? " -+"[e->leap] : '?', e->row,
+                 e->place, e->echo);
+    if (e)
+        snprintf(text, sizeof text,
+                 "%8" PRIu32 " %04" PRIu32 "-%02" PRIu32 "-%02" PRIu32 " %02" PRIu32 ":%02" PRIu32
+                 " %2" PRIu32 "%s",
+                 e->minute, d.year, d.month, d.day, d.hour, d.minute, e->length, rest);
+    snprintf(line, LINE + 1, "%-41.41s\n", e ? text : "");
+}
+
+/* The answer has the last page alone, so all pages are looked at here: each has its number, the
+   dashes and the lines of its entries, as wwvb_read_recording gives them. What that call changes
+   is looked at elsewhere. */
+static void say_page_faults(const struct bytes *b, const uint8_t *text, size_t n, struct text *got)
+{
+    size_t at, i, most = (b->length / WWVB_MIN_FRAME + 1) * WWVB_ENTRY_SIZE;
+    struct buffer in = buffer_of(b->at, b->length), entries = buffer_of(NULL, most);
+    wwvb_read_reply r = wwvb_read_recording(in.at, in.length, entries.at, entries.length);
+    char line[LINE + 1];
+
+    for (at = 0, i = 0; at + LINE <= n; at += LINE) {
+        size_t in_page = at / LINE % (WWVB_PAGE_SIZE / LINE);
+
+        if (in_page == 0) {
+            snprintf(line, sizeof line, "%41zu\n", at / WWVB_PAGE_SIZE + 1);
+        } else if (in_page == 1) {
+            memset(line, '-', LINE - 1);
+            line[LINE - 1] = '\n';
+        } else {
+            wwvb_entry e = wwvb_entry_at(entries.at, i < r.entries ? i : 0);
+
+            line_of(i < r.entries ? &e : NULL, line);
+            i++;
+        }
+        if (memcmp(text + at, line, LINE) != 0)
+            say(got, ", and line %zu of page %zu is another", in_page + 1,
+                at / WWVB_PAGE_SIZE + 1);
     }
-    free(tail.at);
-    free(bits.at);
+    give_back(&entries);
+    give_back(&in);
+}
+
+static size_t say_run_pages(const struct bytes *b, size_t length, struct text *got)
+{
+    struct buffer in = buffer_of(b->at, b->length), out = buffer_of(NULL, length);
+    wwvb_print_reply r = wwvb_print_pages(in.at, in.length, out.at, out.length);
+    size_t bytes = r.bytes <= length ? r.bytes : length;
+
+    say(got, "%zu %zu ", r.refusal, r.bytes);
+    say_text(out.at, bytes < WWVB_PAGE_SIZE ? 0 : bytes - WWVB_PAGE_SIZE, bytes, got);
+    say_page_faults(b, out.at, bytes, got);
+    done_with(&out, r.refusal ? 0 : bytes, got);
+    done_with(&in, 0, got);
+    return r.refusal;
+}
+
+/* print-run BITS FIRST NOTICE DATA TIMES TAIL BUFFER-LENGTH = REFUSAL COUNT LAST-PAGE-IN-HEX
+   The recording is as in read-run, and the last page ends as in print-pages. */
+static void print_run(struct line *l, struct text *got)
+{
+    take_printing(l, run(l), say_run_pages, got);
 }
 
 static const struct form {
@@ -891,6 +1059,9 @@ static const struct form {
     {"read-recording", read_recording},
     {"read-recording-bytes", read_recording_bytes},
     {"read-run", read_run},
+    {"print-pages", print_pages},
+    {"print-pages-bytes", print_pages_bytes},
+    {"print-run", print_run},
 };
 
 /* ---- files */

@@ -1,5 +1,7 @@
 #include "reference.h"
 
+#include <stdio.h>
+#include <stdlib.h>
 #include <string.h>
 
 #define MINUTES 52596000u
@@ -657,6 +659,81 @@ unsigned ref_read(const uint8_t *bits, size_t length, uint8_t *entries, size_t s
         ++*count;
     }
     return 0;
+}
+
+/* ---- pages */
+
+/* A line of a page: the text, which has 41 characters, and a line feed. */
+static uint8_t *put_text(uint8_t *out, const char *text)
+{
+    if (strlen(text) != REF_LINE - 1)
+        abort();
+    memcpy(out, text, REF_LINE - 1);
+    out[REF_LINE - 1] = '\n';
+    return out + REF_LINE;
+}
+
+/* The nine columns of an entry, one space between them; for a message, blanks after the length but
+   for the M. */
+static uint8_t *put_entry(uint8_t *out, const uint8_t entry[REF_ENTRY])
+{
+    static const char *const two_bits[4] = {"00", "01", "10", "11"};
+    uint32_t minute = minute_of(entry);
+    struct ref_date d = date_of(minute);
+    char date[40], time[40], text[200];
+
+    snprintf(date, sizeof date, "%04u-%02u-%02u", (unsigned)d.year, (unsigned)d.month,
+             (unsigned)d.day);
+    snprintf(time, sizeof time, "%02u:%02u", (unsigned)d.hour, (unsigned)d.minute);
+    if (entry[11] == 1)
+        snprintf(text, sizeof text, "%8u %10s %5s %2u %2s %c %2s %2s %1s", (unsigned)minute, date,
+                 time, entry[4], "", 'M', "", "", "");
+    else
+        snprintf(text, sizeof text, "%8u %10s %5s %2u %2s %c %2u %2u %1u", (unsigned)minute, date,
+                 time, entry[4], two_bits[entry[5]], " -+"[entry[6]], entry[7], entry[9],
+                 entry[10]);
+    return put_text(out, text);
+}
+
+/* A page by its number, from 1, of so many entries, at most 50. */
+static uint8_t *put_page(uint8_t *out, size_t number, const uint8_t *entries, size_t n)
+{
+    char text[60];
+    size_t i;
+
+    snprintf(text, sizeof text, "%41zu", number);
+    out = put_text(out, text);
+    out = put_text(out, "-----------------------------------------");
+    snprintf(text, sizeof text, "%41s", "");
+    for (i = 0; i < REF_PAGE_ENTRIES; i++)
+        out = i < n ? put_entry(out, entries + i * REF_ENTRY) : put_text(out, text);
+    return out;
+}
+
+/* Reads the whole recording first, with space for as many entries as its bits can give. */
+unsigned ref_print_pages(const uint8_t *bits, size_t length, uint8_t *out, size_t space,
+                         size_t *bytes)
+{
+    size_t most = (length / 59 + 1) * REF_ENTRY, count, used, pages, i;
+    uint8_t *entries = malloc(most);
+    unsigned refusal;
+
+    if (!entries)
+        abort();
+    refusal = ref_read(bits, length, entries, most, &count, &used);
+    pages = (count + REF_PAGE_ENTRIES - 1) / REF_PAGE_ENTRIES;
+    if (refusal == 0 && pages * REF_PAGE > space)
+        refusal = 4;
+    for (i = 0; i < pages && refusal == 0; i++) {
+        size_t from = i * REF_PAGE_ENTRIES, left = count - from;
+
+        out = put_page(out, i + 1, entries + from * REF_ENTRY,
+                       left < REF_PAGE_ENTRIES ? left : REF_PAGE_ENTRIES);
+    }
+    if (refusal == 0)
+        *bytes = pages * REF_PAGE;
+    free(entries);
+    return refusal;
 }
 
 /* ---- the amplitude code */

@@ -21,6 +21,11 @@ struct ref_plan {
 /* Bytes of an entry. */
 #define REF_ENTRY 18
 
+/* Bytes of a line of a page with its line feed, entries on a page, and bytes of a page. */
+#define REF_LINE 42
+#define REF_PAGE_ENTRIES 50
+#define REF_PAGE (52 * REF_LINE)
+
 struct ref_date {
     uint32_t year, month, day, hour, minute, weekday;
 };
@@ -44,6 +49,8 @@ unsigned ref_write(const struct ref_plan *plan, const uint8_t *messages, size_t 
 unsigned ref_read_frame(const uint8_t *bits, size_t length, uint8_t *entry, size_t space);
 unsigned ref_read(const uint8_t *bits, size_t length, uint8_t *entries, size_t space,
                   size_t *count, size_t *used);
+unsigned ref_print_pages(const uint8_t *bits, size_t length, uint8_t *out, size_t space,
+                         size_t *bytes);
 unsigned ref_write_amplitude(const struct ref_plan *plan, const uint8_t *messages,
                              size_t messages_length, uint32_t minute, int32_t ut1_sign,
                              uint32_t ut1_tenths, uint8_t *out, size_t space, size_t *symbols);

@@ -1,12 +1,13 @@
 /*
- * tests/play.c with calls that change a byte which they must not change, or write another frame.
- * SPOIL in the environment says which byte:
- *   before           the one before the buffer of a writing
+ * tests/play.c with calls that change a byte which they must not change, write another frame, or
+ * print something else. SPOIL in the environment says which byte:
+ *   before           the one before the buffer of a writing or printing
  *   after            the one after it
- *   refused          the first of a buffer whose writing is refused
- *   rest             the one after the last symbol or bit written
- *   input            the first symbol or bit that is read
- *   after-input      the one after the last symbol or bit that is read
+ *   refused          the first of a buffer whose writing is refused, or whose printing by 4
+ *   refused-bits     the first of a buffer whose printing is refused for its recording
+ *   rest             the one after the last symbol, bit or page
+ *   input            the first symbol or bit that is read or printed
+ *   after-input      the one after the last symbol or bit that is read or printed
  *   before-entries   the one before the entry buffer of a reading
  *   after-entries    the one after it
  *   rest-of-entries  the one after the last entry, in the buffer
@@ -20,6 +21,11 @@
  *   minute           it is the frame of the minute after
  * or what is wrong in the second entry that is read, if there are more:
  *   entry            the last byte, of the data
+ * or what is wrong in what is printed:
+ *   count            the number of bytes is less by a page
+ *   count-refused    the number of bytes is that of a page, though it is refused
+ *   blank            the last character of the last page, if it is a blank
+ *   first-page       the echo in the first line of the first page, if there are more
  * Without SPOIL the calls are those of the library.
  */
 #define _POSIX_C_SOURCE 200809L
@@ -118,6 +124,29 @@ static wwvb_read_reply spoiling_read_recording(const uint8_t *bits, size_t bits_
     return r;
 }
 
+static wwvb_print_reply spoiling_print_pages(const uint8_t *bits, size_t bits_length, uint8_t *out,
+                                             size_t out_length)
+{
+    wwvb_print_reply r = wwvb_print_pages(bits, bits_length, out, out_length);
+
+    spoil_input(bits, bits_length);
+    spoil("before", out - 1);
+    spoil("after", out + out_length);
+    if (r.refusal != WWVB_OK && out_length > 0)
+        spoil(r.refusal == WWVB_NO_BIT_SPACE ? "refused" : "refused-bits", out);
+    if (r.refusal == WWVB_OK && r.bytes < out_length)
+        spoil("rest", out + r.bytes);
+    if (r.bytes > 0 && out[r.bytes - 2] == ' ')
+        spoil("blank", out + r.bytes - 2);
+    if (r.bytes > WWVB_PAGE_SIZE)
+        spoil("first-page", out + 3 * 42 - 2);
+    if (r.bytes > 0 && is_wanted("count"))
+        r.bytes -= WWVB_PAGE_SIZE;
+    if (r.refusal != WWVB_OK && is_wanted("count-refused"))
+        r.bytes = WWVB_PAGE_SIZE;
+    return r;
+}
+
 static wwvb_write_reply spoiling_write_amplitude(uint32_t kind, uint32_t spring, uint32_t autumn,
                                                  uint32_t leap_month, int32_t leap_sign,
                                                  uint32_t notice, const uint8_t *messages,
@@ -145,6 +174,7 @@ static wwvb_amplitude_reply spoiling_read_amplitude(const uint8_t *symbols, size
 #define wwvb_write_recording spoiling_write_recording
 #define wwvb_read_frame spoiling_read_frame
 #define wwvb_read_recording spoiling_read_recording
+#define wwvb_print_pages spoiling_print_pages
 #define wwvb_write_amplitude spoiling_write_amplitude
 #define wwvb_read_amplitude spoiling_read_amplitude
 #include "play.c"

@@ -1,12 +1,13 @@
--- A page put line by line, from the bytes of its entries.
+-- Lines put one after the other, from the bytes of their entries.
 -- Assumes nothing.
 use Prim.Native.Nat.{ℕ, zero, suc, _+_, _-_, _*_, _/_, _%_, _^_, _≤_, _<_}
 use mathlib.Core.List.{List, [], _∷_, _++_, map, append-nil, append-assoc}
-use mathlib.Core.Path.{_≡_, refl, sym, ap, _∙_}
+use mathlib.Core.Path.{_≡_, refl, sym, ap, ap₂, _∙_}
+use native.Mathlib.Nat.{zero-add, suc-add}
 use native.Mathlib.Numerals.{add-one}
 use native.Mathlib.Omega.{arith}
 use lib.ListN.{length, getD, take, drop, replicate, length-append, length-replicate, length-take, length-drop, length-map}
-use lib.Seq.{take-suc, drop-drop, take-all}
+use lib.Seq.{take-suc, drop-drop, drop-nil, take-all}
 use Rattle.bits.specs.Bits.{concat}
 use Rattle.format.specs.Entry.{Entry, entrySize}
 use Rattle.sequence.proofs.Putting.{Put, put-of, put-more, rest-length}
@@ -79,9 +80,12 @@ module _ (i : ℕ) (s : List ℕ) (whole : length s % entrySize ≡ 0) (f : Each
   pub entry-whole : entrySize * i < length s → length (entryAt i s) ≡ entrySize
   entry-whole h = omega (arith, length-take entrySize (drop (entrySize * i) s), length-drop (entrySize * i) s)
 
--- ---- the lines of a page
+-- ---- n lines
 
--- the first i lines of entries, blank ones after the last
+-- those of entries, and blank ones after them
+abbrev lines : ℕ → List Entry → List (List ℕ)
+lines n es = map line es ++ replicate (n - length (map line es)) (blanks 41)
+
 getD-filled : (ls : List (List ℕ)) (n i : ℕ) (d : List ℕ) → i < length ls + n → getD (ls ++ replicate n d) i [] ≡ getD ls i d
 getD-filled [] zero i d h = absurd (omega arith)
 getD-filled [] (suc n) zero d h = refl
@@ -96,63 +100,127 @@ text-one ls k h =
     ∙ text-append (take k ls) (getD ls k [] ∷ [])
     ∙ (unfold concat in ap (λ (w : List ℕ). text (take k ls) ++ w) (append-nil (feed (getD ls k []))))
 
--- the 50 lines of entries
-abbrev lines : List Entry → List (List ℕ)
-lines es = map line es ++ replicate (50 - length (map line es)) (blanks 41)
-
 -- the text of the first i
-unfoldable pub upTo : List Entry → ℕ → List ℕ
-upTo es i = text (take i (lines es))
+unfoldable pub upTo : ℕ → List Entry → ℕ → List ℕ
+upTo n es i = text (take i (lines n es))
 
-pub put-none : (es : List Entry) (out : List ℕ) → Put (upTo es 0) out out 0
+pub put-none : (n : ℕ) (es : List Entry) (out : List ℕ) → Put (upTo n es 0) out out 0
 unfolding upTo concat
-put-none es out = record { size = refl; room = omega arith; is = refl }
+put-none n es out = record { size = refl; room = omega arith; is = refl }
 
-module _ (es : List Entry) (few : length es ≤ 50) (f : Each Fits es) where
-  good : Lines (lines es)
+module _ (n : ℕ) (es : List Entry) (few : length es ≤ n) (f : Each Fits es) where
+  good : Lines (lines n es)
   unfolding blanks
-  good = every-append Line (map line es) _ (every-line Line line-entry es f) (every-many Line (50 - length (map line es)) (blanks 41) (line-many 32 (omega arith)))
+  good = every-append Line (map line es) _ (every-line Line line-entry es f) (every-many Line (n - length (map line es)) (blanks 41) (line-many 32 (omega arith)))
 
-  all-lines : length (lines es) ≡ 50
-  all-lines = omega (arith, length-append (map line es) (replicate (50 - length (map line es)) (blanks 41)), length-replicate (50 - length (map line es)) (blanks 41), length-map es line)
+  all-lines : length (lines n es) ≡ n
+  all-lines =
+      omega (
+        arith,
+        length-append (map line es) (replicate (n - length (map line es)) (blanks 41)),
+        length-replicate (n - length (map line es)) (blanks 41),
+        length-map es line,
+      )
 
-  up-to-length : (i : ℕ) → i ≤ 50 → length (upTo es i) ≡ 42 * i
+  up-to-length : (i : ℕ) → i ≤ n → length (upTo n es i) ≡ 42 * i
   unfolding upTo
-  up-to-length i h = length-text (take i (lines es)) (every-take Line i (lines es) good) ∙ omega (arith, length-take i (lines es), all-lines)
+  up-to-length i h = length-text (take i (lines n es)) (every-take Line i (lines n es) good) ∙ omega (arith, length-take i (lines n es), all-lines)
 
-  line-more : (i : ℕ) → i < 50 → upTo es (suc i) ≡ upTo es i ++ feed (lineAt i es)
+  line-more : (i : ℕ) → i < n → upTo n es (suc i) ≡ upTo n es i ++ feed (lineAt i es)
   unfolding lineAt upTo
   line-more i h =
-      text-one (lines es) i (omega (arith, all-lines))
-      ∙ ap (λ (l : List ℕ). text (take i (lines es)) ++ feed l) (getD-filled (map line es) (50 - length (map line es)) i (blanks 41) (omega (arith, length-map es line)))
+      text-one (lines n es) i (omega (arith, all-lines))
+      ∙ ap (λ (l : List ℕ). text (take i (lines n es)) ++ feed l) (getD-filled (map line es) (n - length (map line es)) i (blanks 41) (omega (arith, length-map es line)))
 
-  line-length : (i : ℕ) → i < 50 → length (feed (lineAt i es)) ≡ 42
-  line-length i h = omega (arith, up-to-length i (omega arith), up-to-length (suc i) h, ap length (line-more i h), length-append (upTo es i) (feed (lineAt i es)))
+  line-length : (i : ℕ) → i < n → length (feed (lineAt i es)) ≡ 42
+  line-length i h =
+      omega (arith, up-to-length i (omega arith), up-to-length (suc i) h, ap length (line-more i h), length-append (upTo n es i) (feed (lineAt i es)))
 
   -- line i put after those before it
-  pub put-next : (i : ℕ) (out₀ out ys : List ℕ) → i < 50 → Put (upTo es i) out₀ out (i * 42) → 42 ≤ length (take (length out - i * 42) (drop (i * 42) out))
+  pub put-next : (i : ℕ) (out₀ out ys : List ℕ) → i < n → Put (upTo n es i) out₀ out (i * 42) → 42 ≤ length (take (length out - i * 42) (drop (i * 42) out))
       → ys ≡ feed (lineAt i es) ++ drop 42 (take (length out - i * 42) (drop (i * 42) out))
-      → Put (upTo es (i + 1)) out₀ (take (i * 42) out ++ (ys ++ drop (length out - i * 42) (drop (i * 42) out))) ((i + 1) * 42)
+      → Put (upTo n es (i + 1)) out₀ (take (i * 42) out ++ (ys ++ drop (length out - i * 42) (drop (i * 42) out))) ((i + 1) * 42)
   put-next i out₀ out ys h p room y =
       let q = put-more p (put-of (feed (lineAt i es)) _ ys 42 42 (line-length i h) room refl y) in
-      let e : upTo es i ++ feed (lineAt i es) ≡ upTo es (i + 1) = rw (add-one i) (sym (line-more i h)) in
-      let n : i * 42 + 42 ≡ (i + 1) * 42 = omega arith in
-      rw (e, n) at q
+      let e : upTo n es i ++ feed (lineAt i es) ≡ upTo n es (i + 1) = rw (add-one i) (sym (line-more i h)) in
+      let k : i * 42 + 42 ≡ (i + 1) * 42 = omega arith in
+      rw (e, k) at q
 
-  pub lines-whole : upTo es 50 ≡ linesText es
+  pub lines-whole : upTo n es n ≡ linesText n es
   unfolding linesText upTo
-  lines-whole = ap text (take-all 50 (lines es) (omega (arith, all-lines)))
+  lines-whole = ap text (take-all n (lines n es) (omega (arith, all-lines)))
 
-  pub lines-length : length (linesText es) ≡ 2100
-  lines-length = ap length (sym lines-whole) ∙ up-to-length 50 (omega arith)
+  pub lines-length : length (linesText n es) ≡ 42 * n
+  lines-length = ap length (sym lines-whole) ∙ up-to-length n (omega arith)
+
+-- ---- lines in two parts
+
+-- n lines, filled up with blank ones
+unfoldable fill : ℕ → List (List ℕ) → List (List ℕ)
+fill zero ls = []
+fill (suc n) [] = blanks 41 ∷ fill n []
+fill (suc n) (l ∷ ls) = l ∷ fill n ls
+
+fill-parts : (m n : ℕ) (ls : List (List ℕ)) → fill (m + n) ls ≡ fill m ls ++ fill n (drop m ls)
+unfolding fill
+fill-parts zero n ls = rw (zero-add n)
+fill-parts (suc m) n [] = rw (suc-add m n) (ap (λ (w : List (List ℕ)). blanks 41 ∷ w) (fill-parts m n [] ∙ ap (λ (w : List (List ℕ)). fill m [] ++ fill n w) (drop-nil m)))
+fill-parts (suc m) n (l ∷ ls) = rw (suc-add m n) (ap (λ (w : List (List ℕ)). l ∷ w) (fill-parts m n ls))
+
+fill-take : (n : ℕ) (ls : List (List ℕ)) → fill n (take n ls) ≡ fill n ls
+unfolding fill
+fill-take zero ls = refl
+fill-take (suc n) [] = refl
+fill-take (suc n) (l ∷ ls) = ap (λ (w : List (List ℕ)). l ∷ w) (fill-take n ls)
+
+filled : (n : ℕ) (ls : List (List ℕ)) → length ls ≤ n → ls ++ replicate (n - length ls) (blanks 41) ≡ fill n ls
+unfolding fill
+filled zero [] h = refl
+filled zero (l ∷ ls) h = absurd (omega arith)
+filled (suc n) [] h = let e : suc n - 0 ≡ suc (n - 0) = omega arith in rw e (ap (λ (w : List (List ℕ)). blanks 41 ∷ w) (filled n [] (omega arith)))
+filled (suc n) (l ∷ ls) h = let e : suc n - suc (length ls) ≡ n - length ls = omega arith in rw e (ap (λ (w : List (List ℕ)). l ∷ w) (filled n ls (omega arith)))
+
+lines-filled : (n : ℕ) (es : List Entry) → length es ≤ n → linesText n es ≡ text (fill n (map line es))
+unfolding linesText
+lines-filled n es h = ap text (filled n (map line es) (omega (arith, length-map es line)))
+
+pub map-take : (n : ℕ) (es : List Entry) → map line (take n es) ≡ take n (map line es)
+map-take zero es = refl
+map-take (suc n) [] = refl
+map-take (suc n) (e ∷ es) = ap (λ (ls : List (List ℕ)). line e ∷ ls) (map-take n es)
+
+pub map-drop : (n : ℕ) (es : List Entry) → map line (drop n es) ≡ drop n (map line es)
+map-drop zero es = refl
+map-drop (suc n) [] = refl
+map-drop (suc n) (e ∷ es) = map-drop n es
+
+lines-taken : (n : ℕ) (es : List Entry) → linesText n (take n es) ≡ text (fill n (map line es))
+lines-taken n es =
+    lines-filled n (take n es) (omega (arith, length-take n es))
+    ∙ ap (λ (ls : List (List ℕ)). text (fill n ls)) (map-take n es)
+    ∙ ap text (fill-take n (map line es))
+
+-- the first m lines of entries, and the n after them
+pub lines-parts : (m n : ℕ) (es : List Entry) → linesText m (take m es) ++ linesText n (take n (drop m es)) ≡ linesText (m + n) (take (m + n) es)
+lines-parts m n es =
+    ap₂ (λ (a b : List ℕ). a ++ b) (lines-taken m es) (lines-taken n (drop m es) ∙ ap (λ (ls : List (List ℕ)). text (fill n ls)) (map-drop m es))
+    ∙ sym (text-append (fill m (map line es)) (fill n (drop m (map line es))))
+    ∙ ap text (sym (fill-parts m n (map line es)))
+    ∙ sym (lines-taken (m + n) es)
+
+pub lines-zero : (es : List Entry) → linesText 0 (take 0 es) ≡ []
+unfolding linesText concat
+lines-zero es = refl
+
+-- ---- a page
 
 -- the head and the lines are the page
-pub page-made : (number : ℕ) (es : List Entry) → (feed (aligned 41 number) ++ feed (replicate 41 45)) ++ linesText es ≡ page number (map line es)
+page-made : (number : ℕ) (es : List Entry) → (feed (aligned 41 number) ++ feed (replicate 41 45)) ++ linesText 50 es ≡ page number (map line es)
 unfolding page pageLines linesText concat
-page-made number es = append-assoc (feed (aligned 41 number)) (feed (replicate 41 45)) (linesText es)
+page-made number es = append-assoc (feed (aligned 41 number)) (feed (replicate 41 45)) (linesText 50 es)
 
 -- the entries in bytes are at most as many as their space has
-pub count-few : (s : List ℕ) → length s ≤ 900 → length (entriesIn s) ≤ 50
+pub count-few : (s : List ℕ) → length s ≤ 180 → length (entriesIn s) ≤ 10
 unfolding entriesIn
 count-few s h = omega (arith, count-from (length s / entrySize) s)
 
@@ -162,11 +230,11 @@ head-length number h =
     omega (arith, length-append (feed (aligned 41 number)) (feed (replicate 41 45)), length-append (aligned 41 number) (10 ∷ []), fitting number h .size)
 
 -- the head is put, and the lines after it
-pub put-page-made : (number : ℕ) (s out first ys : List ℕ) → number < 2 ^ 32 → length s ≤ 900 → Each Fits (entriesIn s) → 2184 ≤ length out
-    → first ≡ feed (aligned 41 number) ++ feed (replicate 41 45) ++ drop 84 out → ys ≡ linesText (entriesIn s) ++ drop 2100 (take (length first - 84) (drop 84 first))
-    → take 84 first ++ (ys ++ drop (length first - 84) (drop 84 first)) ≡ page number (map line (entriesIn s)) ++ drop 2184 out
-put-page-made number s out first ys h few fit room e y =
+pub put-page-made : (number : ℕ) (es : List Entry) (out first ys : List ℕ) → number < 2 ^ 32 → length es ≤ 50 → Each Fits es → 2184 ≤ length out
+    → first ≡ feed (aligned 41 number) ++ feed (replicate 41 45) ++ drop 84 out → ys ≡ linesText 50 es ++ drop 2100 (take (length first - 84) (drop 84 first))
+    → take 84 first ++ (ys ++ drop (length first - 84) (drop 84 first)) ≡ page number (map line es) ++ drop 2184 out
+put-page-made number es out first ys h few fit room e y =
     let head : Put (feed (aligned 41 number) ++ feed (replicate 41 45)) out first 84 =
     put-of _ out first 84 84 (head-length number h) (omega arith) refl e in
-    let q = put-more head (put-of (linesText (entriesIn s)) _ ys 2100 2100 (lines-length (entriesIn s) (count-few s few) fit) (omega (arith, rest-length head)) refl y) in
-    q .is ∙ ap (λ (w : List ℕ). w ++ drop 2184 out) (page-made number (entriesIn s))
+    let q = put-more head (put-of (linesText 50 es) _ ys 2100 2100 (lines-length 50 es few fit) (omega (arith, rest-length head)) refl y) in
+    q .is ∙ ap (λ (w : List ℕ). w ++ drop 2184 out) (page-made number es)

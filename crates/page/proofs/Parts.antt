@@ -1,4 +1,4 @@
--- A page's entries read into their space: what the call of the reader comes to, by the definitions.
+-- The entries of a part read into their space: what the call of the reader comes to, by the definitions.
 -- Assumes nothing.
 use Prim.Native.Nat.{ℕ, _+_, _/_, _≤_, _<_}
 use mathlib.Core.Bool.{true, false}
@@ -27,9 +27,9 @@ use Rattle.page_rules.specs.Printing.{readOn, readAll}
 use Rattle.page_rules.proofs.Reading.{Sized, sized, read-on-same, read-parts, before, on-end}
 use Rattle.page.specs.Answer.{counted}
 
--- what reading 50 entries from a state on finds
+-- what reading ten entries from a state on finds
 abbrev pub part : Due → List ℕ → Found
-part due f = readFrames 50 due f
+part due f = readFrames 10 due f
 
 -- the answer of the reader's call, with the space before and after it
 pub record Part (d : Due) (f first later : List ℕ) (s : Summary) : Type 0 where
@@ -39,12 +39,12 @@ pub record Part (d : Due) (f first later : List ℕ) (s : Summary) : Type 0 wher
   pub due : s .due ≡ part d f .due
   pub space : later ≡ bytesOf (part d f .entries) ++ drop (length (bytesOf (part d f .entries))) first
 
-pub part-read : (d : Due) (f g space later : List ℕ) (s : Summary) → length space ≡ 900 → g ≡ f
+pub part-read : (d : Due) (f g space later : List ℕ) (s : Summary) → length space ≡ 180 → g ≡ f
     → summaryOutcome s later ≡ readFrom d space g → s .due ≡ dueFrom d space g → Part d f space later s
 unfolding readFrom dueFrom outcome
 part-read d f g space later s l e o n =
-    let slots : length space / entrySize ≡ 50 = omega arith in
-    let q : readFrames (length space / entrySize) d g ≡ part d f = ap (λ (k : ℕ). readFrames k d g) slots ∙ ap (readFrames 50 d) e in
+    let slots : length space / entrySize ≡ 10 = omega arith in
+    let q : readFrames (length space / entrySize) d g ≡ part d f = ap (λ (k : ℕ). readFrames k d g) slots ∙ ap (readFrames 10 d) e in
     let p : summaryOutcome s later ≡ outcome space (part d f) = o ∙ ap (outcome space) q in
     record {
       entries = ap (λ (x : Outcome). x .count) p;
@@ -55,11 +55,11 @@ part-read d f g space later s l e o n =
     }
 
 -- the space keeps its size
-pub space-kept : (d : Due) (f first later : List ℕ) (s : Summary) → Part d f first later s → length first ≡ 900 → length later ≡ 900
+pub space-kept : (d : Due) (f first later : List ℕ) (s : Summary) → Part d f first later s → length first ≡ 180 → length later ≡ 180
 space-kept d f first later s p l =
     let es = part d f .entries in
     let b = length-bytes es in
-    omega (arith, ap length (p .space), length-append (bytesOf es) (drop (length (bytesOf es)) first), length-drop (length (bytesOf es)) first, sized 50 d f .slots)
+    omega (arith, ap length (p .space), length-append (bytesOf es) (drop (length (bytesOf es)) first), length-drop (length (bytesOf es)) first, sized 10 d f .slots)
 
 -- a refusal has a number above 0
 pub number-above : (x : Refusal) → 0 < refusalNumber x
@@ -98,21 +98,21 @@ module _ (count : ℕ) (d : Due) (f space later : List ℕ) (s : Summary) (p : P
   pub counted-complete : s .end ≡ Complete → found ((count + s .entries) ∷ []) ≡ counted whole
   counted-complete e =
       let z : part d f .refusal ≡ 0 = sym (p .end) ∙ ap endNumber e in
-      let k : part d f ≡ readOn d f = read-on-same 50 d f (λ h. omega arith) in
+      let k : part d f ≡ readOn d f = read-on-same 10 d f (λ h. omega arith) in
       let r : readOn d f .refusal ≡ 0 = ap (λ (x : Found). x .refusal) (sym k) ∙ z in
       let l : length (part d f .entries) ≡ length (readOn d f .entries) = ap (λ (x : Found). length (x .entries)) k in
       counted-found (count + s .entries) whole (sym (c .refusal) ∙ r) (omega (arith, c .total, p .entries))
 
-  pub counted-refusal : (x : Refusal) → s .end ≡ Refused x → s .entries < 50 → refused (refusalNumber x) ≡ counted whole
+  pub counted-refusal : (x : Refusal) → s .end ≡ Refused x → s .entries < 10 → refused (refusalNumber x) ≡ counted whole
   counted-refusal x e l =
       let z : part d f .refusal ≡ refusalNumber x = sym (p .end) ∙ ap endNumber e in
-      let n : part d f .refusal ≡ 5 → ⊥ = λ h. omega (arith, sized 50 d f .full h .0, p .entries) in
-      let k : part d f ≡ readOn d f = read-on-same 50 d f n in
+      let n : part d f .refusal ≡ 5 → ⊥ = λ h. omega (arith, sized 10 d f .full h .0, p .entries) in
+      let k : part d f ≡ readOn d f = read-on-same 10 d f n in
       counted-refused (refusalNumber x) whole (number-above x) (sym (c .refusal) ∙ ap (λ (r : Found). r .refusal) (sym k) ∙ z)
 
-  -- out of space: 50 entries more, and bits are left
-  pub out-of-space : (x : Refusal) → s .end ≡ Refused x → 50 ≤ s .entries → part d f .refusal ≡ 5
-  out-of-space x e l = go (sized 50 d f .taken (omega (arith, sized 50 d f .slots, p .entries)))
+  -- out of space: ten entries more, and bits are left
+  pub out-of-space : (x : Refusal) → s .end ≡ Refused x → 10 ≤ s .entries → part d f .refusal ≡ 5
+  out-of-space x e l = go (sized 10 d f .taken (omega (arith, sized 10 d f .slots, p .entries)))
     where
       go : (part d f .refusal ≡ 0) ⊎ (part d f .refusal ≡ 5) → part d f .refusal ≡ 5
       go (inl h) = absurd (omega (arith, number-above x, p .end, ap endNumber e))
@@ -121,7 +121,7 @@ module _ (count : ℕ) (d : Due) (f space later : List ℕ) (s : Summary) (p : P
   pub counting-on : part d f .refusal ≡ 5 → Counting (count + s .entries) (s .due) (drop (s .used) f) whole
   unfolding before
   counting-on h =
-      let k = read-parts 50 d f h in
+      let k = read-parts 10 d f h in
       let g : readOn (part d f .due) (drop (part d f .used) f) ≡ readOn (s .due) (drop (s .used) f) = rw (p .due, p .used) in
       let a : length (readOn d f .entries) ≡ length (part d f .entries) + length (readOn (part d f .due) (drop (part d f .used) f) .entries) =
       ap (λ (r : Found). length (r .entries)) k ∙ length-append (part d f .entries) (readOn (part d f .due) (drop (part d f .used) f) .entries) in

@@ -17,7 +17,7 @@ use Rattle.page.proofs.count_entries.Tie as tie
 
 abbrev Inv-loop : tie.InvT-loop
 Inv-loop bits space₀ used₀ count₀ due₀ space used count due =
-    (used ≤ length bits) × (count ≤ used) × (length space ≡ 900) × Counting count due (drop used bits) (readAll bits)
+    (used ≤ length bits) × (count ≤ used) × (length space ≡ 180) × Counting count due (drop used bits) (readAll bits)
 
 abbrev μ-loop : tie.MeasureT-loop
 μ-loop bits space₀ used₀ count₀ due₀ space used count due = length bits - used
@@ -43,10 +43,10 @@ module _ (r : tie.After-read-from Inv-loop μ-loop) where
   -- the entries are at most as many as their bits, which are there
   few : (r .read-from .result .entries ≤ r .read-from .result .used) × (a .loop .used + r .read-from .result .used ≤ length (bits a))
   few =
-      let s = sized 50 (a .loop .due) (rest a) in
+      let s = sized 10 (a .loop .due) (rest a) in
       (omega (arith, got .entries, got .used, s .long), omega (arith, got .used, s .within, length-drop (a .loop .used) (bits a), a .loop .inv .0))
 
-  same-space : length (r .read-from .last .1 .0) ≡ 900
+  same-space : length (r .read-from .last .1 .0) ≡ 180
   same-space = space-kept (a .loop .due) (rest a) (a .loop .space) (r .read-from .last .1 .0) (r .read-from .result) got (a .loop .inv .2)
 
 -- where the space is full
@@ -60,10 +60,10 @@ module _ (c : tie.After-struct-known4 Inv-loop μ-loop) where
       (c .before .before .before .before .before .end .given .1) (omega arith)
 
   more : 0 < rf .read-from .result .used
-  more = let s = sized 50 (a rf .loop .due) (rest (a rf)) in omega (arith, got rf .used, s .long, s .full full .0)
+  more = let s = sized 10 (a rf .loop .due) (rest (a rf)) in omega (arith, got rf .used, s .long, s .full full .0)
 
 loop-holds : tie.Need-loop-holds Inv-loop μ-loop
-loop-holds c = (omega arith, omega arith, ap length (c .entry-space .ensures) ∙ refl, counting-none (c .before .before .args .bits .now))
+loop-holds c = (omega arith, omega arith, ap length (c .part-space .ensures) ∙ refl, counting-none (c .before .before .args .bits .now))
 
 sub-read-from : tie.Need-sub-read-from Inv-loop μ-loop
 sub-read-from c = omega arith
@@ -77,8 +77,8 @@ part-read-from-end c = omega arith
 slice-aggregate-read-from : tie.Need-slice-aggregate-read-from Inv-loop μ-loop
 slice-aggregate-read-from c = sym (c .before .before .before .loop .inv .2)
 
-entry-space-requires : tie.Need-entry-space-requires Inv-loop μ-loop
-entry-space-requires c κs = search needs
+part-space-requires : tie.Need-part-space-requires Inv-loop μ-loop
+part-space-requires c κs = search needs
 
 read-from-requires : tie.Need-read-from-requires Inv-loop μ-loop
 read-from-requires c κs = search needs
@@ -133,7 +133,7 @@ count-entries-spec =
     (tie.spec
     Inv-loop
     μ-loop
-    entry-space-requires
+    part-space-requires
     loop-holds
     sub-read-from
     part-read-from-start
