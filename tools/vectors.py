@@ -425,6 +425,38 @@ def listing(data):
     return b"minute length frame\n" + b"".join(b"%d %d %s\n" % (m, len(f), digits(f).encode()) for m, f in rows)
 
 
+# ---- pages of the shift book
+
+BLANK_LINE = 41 * " "
+
+
+def page_line(entry):
+    """The line of an entry: minute, date, time, length; then daylight state, leap, row, repaired place and echo, or M."""
+    minute = int.from_bytes(bytes(entry[:4]), "big")
+    length, dst, leap, row, _, place, echo, is_message = entry[4:12]
+    rest = "   M        " if is_message else f"{dst:02b} {' -+'[leap]} {row:2} {place:2} {echo}"
+    return f"{minute:8} {date_of(minute):%Y-%m-%d %H:%M} {length:2} {rest}"
+
+
+def pages(entries):
+    """The pages of entries, each 52 lines, 50 of them for entries."""
+    lines = []
+    for at in range(0, len(entries), 50):
+        of_page = [page_line(e) for e in entries[at:at + 50]]
+        lines += [f"{at // 50 + 1:41}", 41 * "-", *of_page, *[BLANK_LINE] * (50 - len(of_page))]
+    assert all(len(l) == 41 for l in lines)
+    return "".join(l + "\n" for l in lines)
+
+
+def print_pages(bits, space):
+    """The refusal or 0, and the text. Reading has space for any number of entries."""
+    _, _, refusal, data, _ = read_recording(bits, [], ENTRY * len(bits))
+    if refusal:
+        return refusal, ""
+    text = pages([data[at:at + ENTRY] for at in range(0, len(data), ENTRY)])
+    return (0, text) if len(text) <= space else (4, "")
+
+
 def check_sum(data):
     return functools.reduce(lambda s, b: (s * 257 + b) % 4_294_967_291, data, 0)
 
@@ -461,6 +493,7 @@ NUMBERS = {
     "later message": {5, 6, 7, 20, 11, 13, 14},
     "one later frame": {0, 5, 6, 7, 8, 9, 10, 11, 13, 14},
     "one later message": {0, 5, 6, 7, 20, 11, 13, 14},
+    "printing pages": {0, 6, 7, 8, 9, 10, 11, 13, 14, 19, 20, 4},
     "writing the amplitude code": {0, 1, 3, 18, 4},
     "reading the amplitude code": {0, 17, 18},
 }
@@ -685,6 +718,37 @@ def in_pieces(label, start, piece, times):
     told_reading("later", piece[bits_used:], refusal)
     text = f"{len(start)} bits, then {times} times the others: {label}"
     case("n", text, f":{spaced(n, used, refusal)}, then{spaced(*state, '|', *buffer)}", given(start + piece))
+
+
+PAGE = 52 * 42
+PAGES_SPACE = 3 * PAGE + 2                     # of the program, but for a long recording
+LONG_SPACE = 807 * PAGE + 2
+
+
+def printed(bits, space, whole):
+    """What printing into so many bytes of a whole buffer gives: the refusal or 0, the number of bytes, the check sum of the whole
+    buffer, and the lines of the last page that are not blank."""
+    refusal, text = print_pages(bits, space)
+    lines = [l for l in text[-PAGE:].split("\n")[:-1] if l != BLANK_LINE]
+    answer = spaced(told("printing pages", refusal), len(text), check_sum(text.encode() + b"\7" * (whole - len(text))))
+    return answer + "".join("\n" + l for l in lines)
+
+
+def pages_given(label, bits, space=PAGES_SPACE):
+    case("g", f"{space} bytes for pages, {label}:", printed(bits, space, PAGES_SPACE), given(bits))
+
+
+def pages_sent(plan, first, count, space, messages=()):
+    bits = sent_bits(plan, first, count, messages)
+    text = f"{plan_text(plan)} sends {first} {count}, {space} bytes for pages{messages_text(messages)}:"
+    case("h", text, printed(bits, space, PAGES_SPACE))
+
+
+def pages_long(label, start, piece, times, space):
+    """A recording that begins with some bits and goes on with others so many times."""
+    bits = start + piece * times
+    text = f"{len(start)} bits, then the others again and again, {len(bits)} in all, {space} bytes for pages, {label}:"
+    case("y", text, printed(bits, space, LONG_SPACE), given(start + piece))
 
 
 def edited(plan, m, at, value, n):
@@ -1598,6 +1662,70 @@ def message_amplitude():
             amplitude_written(USUAL, *numbers, [(m, data)])
 
 
+def pages_printed():
+    """Recordings printed as pages."""
+    m, end = JULY_4, MONTH_END
+    time, second, third = frame(USUAL, m), message(USUAL, m + 1, DATA), frame(USUAL, m + 2)
+    # one frame, into each number of bytes about a page's; no bits
+    pages_given("one frame", time)
+    for space in (0, 41, PAGE - 1, PAGE, PAGE + 1):
+        pages_given("one frame", time, space)
+        pages_given("no bits", [], space)
+    # messages
+    pages_given("a message between frames", time + second + third, PAGE)
+    pages_given("five messages", time + [b for k in range(1, 6) for b in message(USUAL, m + k, k)])
+    pages_sent((0, 10, 37, 0, 0, 1), m, 4, PAGE, messages_from(m + 1, 0, MOST))
+    # repaired places and wrong echoes
+    for places, frees in (((1, 0, 31), (0, 1, 1)), ((9, 10, 17), (0, 0, 0)), ((0, 0, 30), (1, 0, 0))):
+        bits = [b for k in range(3) for b in received(USUAL, m + k, places[k], (frees[k], 0, 1))[0]]
+        pages_given(f"places{spaced(*places)}, bit 19 at{spaced(*frees)}", bits)
+    # about a month's end with each leap state, a message in its last minute too; leap months in the middle
+    for plan in (USUAL, LONG, SHORT):
+        pages_sent(plan, end - 1, 3, PAGE)
+        pages_sent(plan, end - 1, 3, PAGE, [(end, DATA)])
+        pages_sent(plan, end - 20_000, 1, PAGE)
+    # minutes of one to eight digits, the first and the last; each daylight state; each kind, and rows of one digit
+    for first in (8, 98, 998, 9_998, 99_998, 999_998, 9_999_998, LAST - 2):
+        pages_sent(USUAL, first, 3, PAGE)
+    for first in (6_412_319, 6_413_759, 6_755_039, 6_756_479):
+        pages_sent(USUAL, first, 2, PAGE)
+    for plan in ((1, 0, 0, 0, 0, 0), (2, 0, 0, 0, 0, 1), LAW, (3, 1, 48, 0, 0, 0), (0, 9, 25, 0, 0, 0)):
+        pages_sent(plan, 0, 1, PAGE)
+    # full pages and one entry more, into a byte too few and exactly enough
+    for count in (49, 50, 51, 100, 101, 150, 151):
+        size = -(-count // 50) * PAGE
+        for space in (size - 1, size):
+            if space <= PAGES_SPACE:
+                pages_sent(USUAL, m, count, space)
+    pages_sent(LONG, end - 49, 100, PAGES_SPACE, messages_from(end - 1, 1, 2, 3, 4))
+    # refused: in the first frame and in the third; the number does not depend on the space
+    before = time + frame(USUAL, m + 1)
+    for q in (7, 8, 9, 10, 11, 13):
+        pages_given(f"first frame, no to {q}", damaged(time, q))
+        pages_given(f"third frame, no to {q}", before + damaged(third, q))
+    for n in (1, 58, 118, 178):
+        pages_given(f"{n} bits of three frames", (before + third)[:n])
+    for n in (59, 119, 179):
+        pages_given(f"{n} bits of three frames", (before + third)[:n], 0)
+    for k in (m + 1, m + 3):
+        pages_given(f"third frame, minute {k}", before + frame(USUAL, k), 0)
+    pages_given("a message first", second, 0)
+    pages_given("a message first, then a frame", second + third)
+    pages_given("a message after the last minute", frame(USUAL, LAST) + message(USUAL, LAST + 1, 1))
+    pages_given("a message with bit 59 at 1", time + inverted(second, 59), PAGE)
+    pages_given("a message with bit 19 inverted", time + inverted(second, 19), PAGE)
+
+
+def pages_of_months():
+    """A month of messages: 20 where its leap state was never read, else 807 pages."""
+    none = (1, 0, 0, 0, 0, 0)
+    m = minute_of(2001, 2, 1)
+    pair = lambda minute: message(none, minute, 5) + message(none, minute + 1, MOST)
+    pages_long("a message in each minute of February, after January's last", frame(none, m - 1), pair(m), 20_160, LONG_SPACE)
+    for space in (807 * PAGE, 807 * PAGE - 1):
+        pages_long("a frame, then messages to the end of February", frame(none, m) + message(none, m + 1, 1), pair(m + 2), 20_159, space)
+
+
 def main():
     tables()
     calendar_lines()
@@ -1620,6 +1748,8 @@ def main():
     message_states()
     message_months()
     message_amplitude()
+    pages_printed()
+    pages_of_months()
     listings()
     assert GIVEN == NUMBERS
     text = "\n".join(LINES) + "\n"

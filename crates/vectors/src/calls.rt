@@ -18,6 +18,10 @@ pub fn call(letter: u8, text: &[u8], behind: &[u8], n: usize) {
         // a minute of the amplitude code written and read, given symbols read
         b'e' => amplitude_trials::written(text),
         b'r' => amplitude_trials::given(behind, n),
+        // given bits printed as pages, a recording written and printed, a long one
+        b'g' => page_trials::given(text, behind, n),
+        b'h' => page_trials::sent(text),
+        b'y' => page_trials::long(text, behind, n),
         // a line of `station` with no line feed, with one
         b'p' => listings::alone(text, behind, n),
         b'q' => listings::listed(text, behind),
