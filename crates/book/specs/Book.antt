@@ -1,5 +1,5 @@
--- What `shiftbook` prints for its input (document 02, 8): a recording as digits in, pages or the refusal out. No section of the papers tells the
--- program: its input, its limit and the text of a refusal are our own, after those of `station`.
+-- What `shiftbook` prints for its input: the digits of a recording in, its pages (document 02, 8) or its refusal out. No section of the papers:
+-- the program, its limit and the text of a refusal are our own, after those of `station`.
 -- Assumes nothing.
 use Prim.Native.Nat.{ℕ}
 use mathlib.Core.Bool.{Bool, _||_}

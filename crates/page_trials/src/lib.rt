@@ -26,7 +26,7 @@ const MINUTE_END: usize = 7;
 
 const LINE_END: usize = 40;
 
-// Shows line k of a page, unless it is blank: then it has no number that ends in one of the two columns.
+// Shows line k of a page, unless it is blank: no other line is blank in both columns.
 fn line(page: &[u8], k: usize) {
     let from = k % PAGE_LINES * LINE_SIZE;
     let end = from + LINE_END;
