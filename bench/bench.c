@@ -101,7 +101,7 @@ static size_t read_frames(const struct codec *c, uint32_t n)
     return done;
 }
 
-/* Fewer than of the other items: snprintf takes its time. */
+/* Fewer frames than for the other items: snprintf takes its time. */
 static size_t pages_printed_by(print_pages_call *call, uint32_t n)
 {
     uint32_t done;
@@ -530,7 +530,7 @@ static void print_spaces(size_t length, size_t entries_due)
         differ(&library, "the pages of a number of entries");
 }
 
-/* Pages by each codec. `input` has 1,000 frames: the first of them, up to each number. Then six
+/* Pages by each codec. `input` has 1,000 frames: the first n of them, for many n. Then six
    minutes with messages at a month's end, with each bit inverted and cut off after each. */
 static void pages_all(void)
 {

@@ -26,7 +26,7 @@ typedef wwvb_print_reply print_pages_call(const uint8_t *bits, size_t bits_lengt
 typedef wwvb_amplitude_reply read_amplitude_call(const uint8_t *symbols, size_t symbols_length);
 
 /* The calls of the library that are measured. A call fast_.. is one written for speed alone, and hand_.. one without
-   snprintf; of the library it is the call without this. */
+   snprintf; of the library it is the call without the prefix. */
 struct codec {
     const char *label;
     write_recording_call *write_recording;

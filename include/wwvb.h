@@ -436,8 +436,8 @@ WWVB_MUST_USE wwvb_read_reply wwvb_read_recording(const uint8_t *bits, size_t bi
  *   row       2
  *   place     2, 0 if nothing was repaired
  *   echo      1
- * Numbers are right-aligned, and filled with zeros in date and time alone. Of a message daylight,
- * row, place and echo are blanks. Notice and data are not printed.
+ * Numbers are right-aligned, and filled with zeros in date and time alone. In the line of a
+ * message daylight, row, place and echo are blank. Notice and data are not printed.
  * The recording may have any number of frames. No bits at all give no page, 0 bytes and WWVB_OK,
  * also with an `out_length` of 0.
  * Refusals: first those of wwvb_read_recording, frame by frame in the same order, without

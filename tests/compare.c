@@ -22,8 +22,7 @@
 
 #define GUARD 64
 #define ROOM (WWVB_MAX_RECORDING + 4096)
-#define MONTH (31 * 1440)            /* minutes of the longest month */
-#define LONG_ROOM (60 * (MONTH + 4)) /* bytes of the longest buffer: a month of frames */
+#define LONG_ROOM (60 * 50010) /* bytes of the longest buffer: the frames of 1,001 pages */
 #define MINUTES WWVB_MINUTES
 
 enum call {
@@ -59,7 +58,7 @@ static unsigned long seen[CALLS][NUMBERS]; /* by call and number */
 static unsigned long later[NUMBERS];       /* refusals of a recording's later frames */
 static unsigned long lengths[CALLS][62];
 static unsigned long message_lengths[62]; /* of messages that are read */
-static unsigned long page_digits[4];      /* pages by the digits of their number */
+static unsigned long page_digits[5];      /* pages by the digits of their number */
 static unsigned long minute_digits[9];    /* printed lines by the digits of their minute */
 static unsigned long leap_marks[4];       /* printed lines by the character under leap */
 static unsigned long lines_left[50];      /* accepted printings by their blank lines */
@@ -427,7 +426,7 @@ static void count_pages(const uint8_t *text, size_t pages)
     size_t left = 0, i, k;
 
     for (i = 0; i < pages; i++, text += REF_PAGE) {
-        page_digits[i < 9 ? 1 : i < 99 ? 2 : 3]++;
+        page_digits[i < 9 ? 1 : i < 99 ? 2 : i < 999 ? 3 : 4]++;
         for (k = 2; k < 52; k++)
             if (text[k * REF_LINE + 7] != ' ')
                 count_line(text + k * REF_LINE);
@@ -2267,18 +2266,18 @@ static size_t long_recording(uint32_t first, uint32_t n, int whole)
     return length;
 }
 
-/* None to some thousand entries, about the limits of pages and of the digits of their numbers; for
+/* None to fifty thousand entries, about the limits of pages and of the digits of their numbers; for
    valgrind up to some hundred. */
 static void boundary_page_counts(void)
 {
     static const uint32_t counts[] = {
         0, 1, 2, 48, 49, 50, 51, 52, 98, 99, 100, 101, 149, 150, 151, 449, 450, 451, 499, 500, 501,
-        999, 1000, 1001, 2500, 4949, 4950, 4951, 4999, 5000, 5001,
+        999, 1000, 1001, 2500, 4949, 4950, 4951, 4999, 5000, 5001, 49950, 50001,
     };
     size_t i, n = sizeof counts / sizeof *counts;
 
     for (i = 0; i < n && !(exact && counts[i] > 151); i++) {
-        size_t length = long_recording(below(MINUTES - 6000), counts[i], 1);
+        size_t length = long_recording(below(MINUTES - 60000), counts[i], 1);
 
         try_spaces(month_bits, length, counts[i]);
         if (counts[i] > 0) { /* a bit lost, and one wrong, in the last frame */
@@ -2526,7 +2525,7 @@ static int report(void)
     printf("\n");
     missing += later[19] != 0;
     printf("%-22s", "  pages by digits");
-    for (n = 1; n < 4; n++) {
+    for (n = 1; n < 5; n++) {
         printf(" %u:%lu", n, page_digits[n]);
         missing += page_digits[n] == 0;
     }

@@ -14,7 +14,7 @@ use Rattle.bits.specs.Bits.{pick, all}
 use Rattle.bits.proofs.Tests.{both-true}
 use Rattle.frame.specs.Answer.{refusalNumber}
 use Rattle.frame.specs.declared.Refusal.{Refusal}
-use Rattle.frame.specs.declared.Refusal.the-variants.{EntrySpace, Short, NotBits, Sync, StateWord, NextWord, Minute, Length, Order, FirstMessage, LeapUnknown}
+use Rattle.page.proofs.Parts.{number-above}
 use Rattle.page_rules.specs.Page.{pageCount, pages, pagesFrom}
 use Rattle.page_rules.specs.Printing.{readAll, entriesOf, pagesOf, Printed, unprinted, printText, printFound, printPages, readOn}
 use Rattle.page_rules.specs.Theorems.{pageNumbers}
@@ -26,20 +26,6 @@ use Rattle.listing.specs.Listing.{refusedText}
 use Rattle.book.specs.Book.{bookLimit, recordingText}
 use Rattle.book.specs.Theorems.{bookSpace}
 use Rattle.book.proofs.Space.{refused-short}
-
--- no refusal has the number 0
-pub some-number : (x : Refusal) → 0 < refusalNumber x
-some-number EntrySpace = omega arith
-some-number Short = omega arith
-some-number NotBits = omega arith
-some-number Sync = omega arith
-some-number StateWord = omega arith
-some-number NextWord = omega arith
-some-number Minute = omega arith
-some-number Length = omega arith
-some-number Order = omega arith
-some-number FirstMessage = omega arith
-some-number LeapUnknown = omega arith
 
 -- a page for each 50 entries begun, and an entry for 59 bits or more
 pub pages-fit : (size entries bits : ℕ) → size ≡ 2184 * pageCount entries → 59 * entries ≤ bits → bits ≤ bookLimit → size ≤ bookSpace
@@ -142,5 +128,5 @@ module _ (f buffer after : List ℕ) (h : length (pagesOf f) ≤ length buffer) 
       → n ≡ length (refusedText number) → out ≡ refusedText number ++ drop (length (refusedText number)) after
       → (n ≡ length (recordingText f)) × (out ≡ recordingText f ++ drop (length (recordingText f)) buffer)
   refusal-put x number n out e k size is =
-      let t = refused-told (refusalNumber x) (some-number x) e in
+      let t = refused-told (refusalNumber x) (number-above x) e in
       rw (t .0, ← t .1, ← k) (size, is)

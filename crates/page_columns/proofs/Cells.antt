@@ -7,12 +7,13 @@ use mathlib.Core.Path.{_≡_, refl, sym, ap, _∙_}
 use native.Mathlib.Nat.{pow-suc}
 use native.Mathlib.Omega.{arith}
 use lib.Dec.{ltb, eqb}
-use lib.ListN.{length, replicate, length-append, length-replicate}
+use lib.ListN.{replicate}
 use borrow.Author.Tests.{ltb-true, ltb-false, ne-eqb}
 use Rattle.bits.specs.Bits.{pick}
 use Rattle.decimal.specs.Decimal.{width, digits, decimal}
-use Rattle.decimal.proofs.Laws.{width-small, width-more, width-le, length-decimal}
+use Rattle.decimal.proofs.Laws.{width-more}
 use Rattle.page_rules.specs.Page.{blanks, aligned}
+use Rattle.page_rules.proofs.Cells.{aligned-small}
 
 -- the low digits of a number, blank where nothing is left of it
 unfoldable pub blankDigits : ℕ → ℕ → List ℕ
@@ -26,14 +27,10 @@ replicate-more : (k : ℕ) → Blanks k ++ (32 ∷ []) ≡ Blanks (suc k)
 replicate-more zero = refl
 replicate-more (suc k) = ap (λ (l : List ℕ). 32 ∷ l) (replicate-more k)
 
-no-digits : (k : ℕ) → blankDigits k 0 ≡ replicate k 32
-unfolding blankDigits
+no-digits : (k : ℕ) → blankDigits k 0 ≡ blanks k
+unfolding blankDigits blanks
 no-digits zero = refl
 no-digits (suc k) = rw (no-digits k) (replicate-more k)
-
-aligned-small : (c n : ℕ) → n < 10 → aligned (suc c) n ≡ replicate c 32 ++ ((48 + n % 10) ∷ [])
-unfolding aligned blanks decimal digits
-aligned-small c n h = let e : suc c - 1 ≡ c = omega arith in rw (width-small n h, e)
 
 aligned-more : (c n : ℕ) → 10 ≤ n → aligned (suc c) n ≡ aligned c (n / 10) ++ ((48 + n % 10) ∷ [])
 unfolding aligned blanks decimal digits
@@ -42,7 +39,7 @@ aligned-more c n h =
     rw (width-more n h, e) (sym (append-assoc (replicate (c - width (n / 10)) 32) (digits (width (n / 10)) (n / 10)) ((48 + n % 10) ∷ [])))
 
 pub aligned-cells : (c n : ℕ) → n < 10 ^ suc c → aligned (suc c) n ≡ blankDigits c (n / 10) ++ ((48 + n % 10) ∷ [])
-unfolding blankDigits
+unfolding blankDigits blanks
 aligned-cells zero n h = aligned-small 0 n (omega arith)
 aligned-cells (suc c) n h = go (ltb n 10) refl (λ k. aligned-cells c (n / 10) k)
   where
@@ -59,10 +56,3 @@ aligned-cells (suc c) n h = go (ltb n 10) refl (λ k. aligned-cells c (n / 10) k
         let d = ne-eqb (n / 10) 0 (λ z. omega (arith, z)) in
         let s : blankDigits c (n / 10 / 10) ++ ((48 + n / 10 % 10) ∷ []) ≡ blankDigits (suc c) (n / 10) = rw d in
         aligned-more (suc c) n l ∙ ap (λ (w : List ℕ). w ++ ((48 + n % 10) ∷ [])) (r q ∙ s)
-
--- right-aligned in columns enough it is as long as they are
-pub aligned-length : (c n : ℕ) → n < 10 ^ suc c → length (aligned (suc c) n) ≡ suc c
-unfolding aligned blanks
-aligned-length c n h =
-    let w = width-le c n h in
-    omega (arith, length-append (replicate (suc c - width n) 32) (decimal n), length-replicate {A = ℕ} (suc c - width n) 32, length-decimal n)

@@ -9,10 +9,10 @@ use lib.Dec.{leb}
 use lib.ListN.{length, replicate, length-append, length-replicate}
 use borrow.Author.Tests.{le-leb}
 use Rattle.bits.specs.Bits.{all}
-use Rattle.bits.proofs.Tests.{and-true, head-true, tail-true}
+use Rattle.bits.proofs.Tests.{and-true}
 use Rattle.decimal.specs.Decimal.{width, digits, decimal, valueFrom, value}
 use Rattle.decimal.proofs.Laws.{width-small, width-le, length-decimal}
-use Rattle.decimal.proofs.RoundTrip.{text-says-number}
+use Rattle.decimal.proofs.RoundTrip.{all-append, text-says-number}
 use Rattle.page_rules.specs.Page.{blanks, aligned}
 
 -- in columns enough it is as long as they are
@@ -45,11 +45,6 @@ aligned-apart c m n e = sym (value-aligned c m) ∙ ap value e ∙ value-aligned
 -- no line feed
 unfoldable pub isVisible : ℕ → Bool
 isVisible b = leb 32 b
-
-pub all-append : (t : ℕ → Bool) (w u : List ℕ) → all t w ≡ true → all t u ≡ true → all t (w ++ u) ≡ true
-unfolding all
-all-append t [] u h k = k
-all-append t (b ∷ w) u h k = and-true (head-true (t b) (all t w) h) (all-append t w u (tail-true (t b) (all t w) h) k)
 
 pub visible-many : (k b : ℕ) → 32 ≤ b → all isVisible (replicate k b) ≡ true
 unfolding all isVisible

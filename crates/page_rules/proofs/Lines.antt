@@ -12,6 +12,7 @@ use lib.Seq.{getD-append-add, getD-at}
 use borrow.Author.Tests.{leb-true, ltb-true, ltb-false}
 use Rattle.bits.specs.Bits.{pick, bits, all, concat}
 use Rattle.bits.proofs.Tests.{all-at}
+use Rattle.decimal.proofs.RoundTrip.{all-append}
 use Rattle.decimal.specs.Decimal.{digits}
 use Rattle.calendar.specs.declared.Date.{Date}
 use Rattle.format.specs.Entry.{Entry}
@@ -19,7 +20,7 @@ use Rattle.page_rules.specs.Page.{lineWidth, blanks, aligned, dateText, 
 use Rattle.page_rules.specs.Page.{line, feed}
 use Rattle.page_rules.specs.Printing.{entriesOf}
 use Rattle.page_rules.specs.Theorems.{Each, Fits, EntriesFit, LineSize}
-use Rattle.page_rules.proofs.Cells.{aligned-length, isVisible, all-append, visible-one, visible-many, visible-digits, visible-aligned}
+use Rattle.page_rules.proofs.Cells.{aligned-length, isVisible, visible-one, visible-many, visible-digits, visible-aligned}
 
 -- ---- lists of texts, each of which is so
 
@@ -223,3 +224,12 @@ text-feeds (l ∷ ls) i h k = go (ltb i 42) refl (λ j b. text-feeds ls j (h .1)
         let b : 42 ≤ i = ltb-false i 42 e in
         let m : i % 42 ≡ (i - 42) % 42 = omega arith in
         rw (after (omega (arith, size)), m) (r (i - 42) (omega (arith, size, length-append (feed l) (text ls))))
+
+-- ---- lines, filled up with others
+
+pub getD-filled : (ls : List (List ℕ)) (n i : ℕ) (d : List ℕ) → i < length ls + n → getD (ls ++ replicate n d) i [] ≡ getD ls i d
+getD-filled [] zero i d h = absurd (omega arith)
+getD-filled [] (suc n) zero d h = refl
+getD-filled [] (suc n) (suc i) d h = getD-filled [] n i d (omega arith)
+getD-filled (l ∷ ls) n zero d h = refl
+getD-filled (l ∷ ls) n (suc i) d h = getD-filled ls n i d (omega arith)

@@ -9,15 +9,15 @@ use native.Mathlib.Nat.{le-trans, zero-add, add-zero, suc-add}
 use native.Mathlib.Numerals.{add-one}
 use native.Mathlib.Omega.{arith}
 use lib.ListN.{length, getD, take, drop, replicate, length-append, length-map, length-replicate, length-take}
-use lib.Seq.{drop-drop, take-at, drop-at}
+use lib.Seq.{drop-drop, take-take, take-at, drop-at}
 use Rattle.bits.specs.Bits.{concat}
 use Rattle.calendar.specs.Calendar.{minuteCount}
 use Rattle.format.specs.Entry.{Entry}
 use Rattle.page_rules.specs.Page.{linesPerPage, blanks, aligned, line, pageLines, feed, page, pagesFrom, pageCount, pages}
-use Rattle.page_rules.specs.Printing.{entriesOf}
+use Rattle.page_rules.specs.Printing.{entriesOf, pagesOf}
 use Rattle.page_rules.specs.Theorems.{Each, Fits, EntriesFit, PagesLaidOut}
 use Rattle.page_rules.proofs.Lines.{every-append, every-many, every-take, every-drop, every-line, Line, Lines, line-entry, line-many, line-number}
-use Rattle.page_rules.proofs.Lines.{text, length-text, text-feeds}
+use Rattle.page_rules.proofs.Lines.{text, length-feed, length-text, text-feeds}
 
 -- ---- pages one after the other
 
@@ -170,6 +170,15 @@ pub pages-length : (es : List Entry) → Each Fits es → length es ≤ minuteCo
 unfolding pages
 pages-length es h k = let b = few-pages (length es) k in length-from _ _ _ (omega arith) (every-line Line line-entry es h)
 
+-- the first two lines of a page
+page-head : (number : ℕ) (ls : List (List ℕ)) → number < 2 ^ 32 → take 84 (page number ls) ≡ feed (aligned 41 number) ++ feed (replicate 41 45)
+unfolding page pageLines concat
+page-head number ls h =
+    let a = feed (aligned 41 number) in
+    let b = feed (replicate 41 45) in
+    ap (take 84) (sym (append-assoc a b (text (ls ++ replicate (linesPerPage - length ls) (blanks 41)))))
+    ∙ take-at (a ++ b) _ 84 (omega (arith, length-append a b, length-feed (aligned 41 number) (fitting number h), length-feed (replicate 41 45) (line-many 45 (omega arith))))
+
 pub pages-laid-out : EntriesFit → PagesLaidOut
 unfolding pages
 pages-laid-out r f =
@@ -177,6 +186,10 @@ pages-laid-out r f =
     let h : Lines (map line (entriesOf f)) = every-line Line line-entry (entriesOf f) (r .fit f) in
     record {
       size = pages-length (entriesOf f) (r .fit f) (r .few f);
+      head-at = λ k l.
+          sym (take-take 84 2184 (drop (2184 * k) (pagesOf f)) (omega arith))
+          ∙ ap (take 84) (page-from _ _ k _ _ (omega arith) h l (omega arith))
+          ∙ page-head (k + 1) _ (omega arith);
       page-at = λ k l. page-from _ _ k _ _ (omega arith) h l (omega arith);
       line-feeds = feeds-from _ _ _ (omega arith) h;
     }

@@ -1,4 +1,4 @@
--- Where the line of each entry stands in the pages.
+-- Where the lines for entries stand in the pages.
 -- Assumes nothing.
 use Prim.Native.Nat.{ℕ, zero, suc, _+_, _-_, _*_, _/_, _%_, _≤_, _<_}
 use mathlib.Core.Bool.{Bool, true, false}
@@ -6,7 +6,7 @@ use mathlib.Core.List.{List, [], _∷_, _++_, map, append-assoc}
 use mathlib.Core.Path.{_≡_, refl, ap, _∙_}
 use native.Mathlib.Omega.{arith}
 use lib.Dec.{ltb}
-use lib.ListN.{length, getD, take, drop, replicate, length-drop, length-map, length-take, List·getD-append}
+use lib.ListN.{length, getD, take, drop, length-take, List·getD-append}
 use lib.Seq.{drop-append-add, take-at, getD-append-add, getD-drop, getD-take}
 use borrow.Author.Tests.{ltb-true, ltb-false}
 use Rattle.bits.specs.Bits.{concat}
@@ -15,7 +15,7 @@ use Rattle.format.specs.Entry.{Entry}
 use Rattle.page_rules.specs.Page.{linesPerPage, blanks, line, pageLines, feed, pageCount, pages}
 use Rattle.page_rules.specs.Printing.{entriesOf}
 use Rattle.page_rules.specs.Theorems.{Each, Fits, EntriesFit, EntryLines}
-use Rattle.page_rules.proofs.Lines.{every-line, Line, Lines, line-entry, text, length-feed}
+use Rattle.page_rules.proofs.Lines.{every-line, Line, Lines, line-entry, text, length-feed, getD-filled}
 use Rattle.page_rules.proofs.Pages.{count-page, take-few, linesFrom, pages-text, lines-from, count-from, few-pages}
 
 fed : (l w : List ℕ) → feed l ++ w ≡ l ++ (10 ∷ w)
@@ -36,19 +36,18 @@ line-at (l ∷ ls) (suc j) h k =
 abbrev place : ℕ → ℕ
 place i = 52 * (i / linesPerPage) + (i % linesPerPage + 2)
 
-line-in : (number : ℕ) (ls : List (List ℕ)) (i : ℕ) → i < length ls → i < linesPerPage
-    → getD (pageLines number (take linesPerPage ls)) (suc (suc i)) [] ≡ getD ls i []
+line-in : (number : ℕ) (ls : List (List ℕ)) (i : ℕ) → i < linesPerPage
+    → getD (pageLines number (take linesPerPage ls)) (suc (suc i)) [] ≡ getD ls i (blanks 41)
 unfolding pageLines
-line-in number ls i h k =
-    List·getD-append (take linesPerPage ls) (replicate (linesPerPage - length (take linesPerPage ls)) (blanks 41)) [] i (omega (arith, length-take linesPerPage ls))
-    ∙ getD-take linesPerPage ls i [] k
+line-in number ls i k =
+    getD-filled (take linesPerPage ls) (linesPerPage - length (take linesPerPage ls)) i (blanks 41) (omega (arith, length-take linesPerPage ls))
+    ∙ getD-take linesPerPage ls i (blanks 41) k
 
 -- line i of those on pages stands after two of each page up to its own
-place-at : (n number : ℕ) (ls : List (List ℕ)) (i : ℕ) → length ls ≤ linesPerPage * n → i < length ls
-    → getD (linesFrom n number ls) (place i) [] ≡ getD ls i []
+place-at : (n number : ℕ) (ls : List (List ℕ)) (i : ℕ) → i < linesPerPage * n → getD (linesFrom n number ls) (place i) [] ≡ getD ls i (blanks 41)
 unfolding linesFrom
-place-at zero number ls i h k = absurd (omega arith)
-place-at (suc n) number ls i h k = go (ltb i linesPerPage) refl (place-at n (suc number) (drop linesPerPage ls) (i - linesPerPage))
+place-at zero number ls i h = absurd (omega arith)
+place-at (suc n) number ls i h = go (ltb i linesPerPage) refl (place-at n (suc number) (drop linesPerPage ls) (i - linesPerPage))
   where
     first : List (List ℕ)
     first = pageLines number (take linesPerPage ls)
@@ -60,33 +59,31 @@ place-at (suc n) number ls i h k = go (ltb i linesPerPage) refl (place-at n (suc
     count = count-page number (take linesPerPage ls) (take-few linesPerPage ls)
 
     go : (t : Bool) → ltb i linesPerPage ≡ t
-        → (length (drop linesPerPage ls) ≤ linesPerPage * n → i - linesPerPage < length (drop linesPerPage ls)
-        → getD rest (place (i - linesPerPage)) [] ≡ getD (drop linesPerPage ls) (i - linesPerPage) [])
-        → getD (first ++ rest) (place i) [] ≡ getD ls i []
+        → (i - linesPerPage < linesPerPage * n → getD rest (place (i - linesPerPage)) [] ≡ getD (drop linesPerPage ls) (i - linesPerPage) (blanks 41))
+        → getD (first ++ rest) (place i) [] ≡ getD ls i (blanks 41)
     go true e r =
         let b : i < linesPerPage = ltb-true i linesPerPage e in
         let p : place i ≡ suc (suc i) = omega arith in
-        rw (p, List·getD-append first rest [] (suc (suc i)) (omega (arith, count))) (line-in number ls i k b)
+        rw (p, List·getD-append first rest [] (suc (suc i)) (omega (arith, count))) (line-in number ls i b)
     go false e r =
         let b : linesPerPage ≤ i = ltb-false i linesPerPage e in
         let q : i / linesPerPage ≡ (i - linesPerPage) / linesPerPage + 1 = omega arith in
         let m : i % linesPerPage ≡ (i - linesPerPage) % linesPerPage = omega arith in
         let p : place i ≡ length first + place (i - linesPerPage) = omega (arith, count) in
-        let d = length-drop linesPerPage ls in
         let s : linesPerPage + (i - linesPerPage) ≡ i = omega arith in
-        rw (p, getD-append-add first rest (place (i - linesPerPage)) [], r (omega arith) (omega arith), getD-drop linesPerPage ls (i - linesPerPage) [], s)
+        rw (p, getD-append-add first rest (place (i - linesPerPage)) [], r (omega arith), getD-drop linesPerPage ls (i - linesPerPage) (blanks 41), s)
 
 same-part : (size i j : ℕ) (w v : List ℕ) → i ≡ j → w ≡ v → take size (drop i w) ≡ take size (drop j v)
 same-part size i j w v e t = rw (e, t)
 
--- the line of entry i, counted from 0
-pub entry-at : (es : List Entry) → Each Fits es → length es ≤ minuteCount → (i : ℕ) → i < length es
-    → take 41 (drop (2184 * (i / linesPerPage) + 42 * (i % linesPerPage + 2)) (pages es)) ≡ getD (map line es) i []
+-- line i of those for entries, counted from 0
+line-of : (es : List Entry) → Each Fits es → length es ≤ minuteCount → (i : ℕ) → i < linesPerPage * pageCount (length es)
+    → take 41 (drop (2184 * (i / linesPerPage) + 42 * (i % linesPerPage + 2)) (pages es)) ≡ getD (map line es) i (blanks 41)
 unfolding pages
-entry-at es h k i l =
+line-of es h k i l =
     same-part 41 (2184 * (i / linesPerPage) + 42 * (i % linesPerPage + 2)) (42 * place i) (pages es) (text ls) (omega arith) (pages-text n 1 (map line es))
     ∙ line-at ls (place i) (lines-from n 1 (map line es) (few-pages (length es) k) (every-line Line line-entry es h)) (omega (arith, count-from n 1 (map line es)))
-    ∙ place-at n 1 (map line es) i (omega (arith, length-map es line)) (omega (arith, length-map es line))
+    ∙ place-at n 1 (map line es) i l
   where
     n : ℕ
     n = pageCount (length es)
@@ -95,4 +92,4 @@ entry-at es h k i l =
     ls = linesFrom n 1 (map line es)
 
 pub entry-lines : EntriesFit → EntryLines
-entry-lines r f i l = entry-at (entriesOf f) (r .fit f) (r .few f) i l
+entry-lines r f i l = line-of (entriesOf f) (r .fit f) (r .few f) i l

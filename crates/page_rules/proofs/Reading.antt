@@ -62,7 +62,8 @@ both-kinds false n h = among (nextNumbers false) pageNumbers n (unfold all oneOf
 next-number : (due : Due) (f : List ℕ) (n : ℕ) → readNext due false f ≡ refused n → oneOf pageNumbers n ≡ true
 next-number due f n h = go (frame-answers due false f)
   where
-    go : (readNext due false f ≡ entry (entryNext due f)) ⊎ ((k : ℕ) × (oneOf (nextNumbers (isMessage f)) k ≡ true) × (readNext due false f ≡ refused k)) → oneOf pageNumbers n ≡ true
+    go : (readNext due false f ≡ entry (entryNext due f)) ⊎ ((k : ℕ) × (oneOf (nextNumbers (isMessage f)) k ≡ true) × (readNext due false f ≡ refused k))
+        → oneOf pageNumbers n ≡ true
     go (inl q) = absurd (not-refused n (entryNext due f) (sym h ∙ q))
     go (inr q) = subst (λ (k : ℕ). oneOf pageNumbers k ≡ true) (refused-injective (q .0) n (sym (q .2) ∙ h)) (both-kinds (isMessage f) (q .0) (q .1))
 

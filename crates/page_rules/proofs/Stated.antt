@@ -2,7 +2,7 @@
 -- Assumes nothing.
 use Rattle.page_rules.specs.Theorems.{EntriesFit, SpaceAside, LineSize, PagesLaidOut, EntryLines, PagesApart}
 use Rattle.page_rules.specs.Theorems.{PrintAnswers, PrintDone, PrintUndone, NothingPrinted, PagesSent}
-use Rattle.page_rules.specs.Theorems.{ExampleLine, ExampleLeap, ExampleShort, ExampleMessage, ExamplePage}
+use Rattle.page_rules.specs.Theorems.{ExampleLine, ExampleLeap, ExampleShort, ExampleFirst, ExampleMessage, ExamplePage}
 use Rattle.page_rules.proofs.Reading.{space-aside, all-answers, nothing-read}
 use Rattle.page_rules.proofs.Entries.{entries-fit}
 use Rattle.page_rules.proofs.Lines.{line-size}
@@ -11,7 +11,7 @@ use Rattle.page_rules.proofs.Places.{entry-lines}
 use Rattle.page_rules.proofs.Apart.{pages-apart}
 use Rattle.page_rules.proofs.Answers.{print-answers, print-done, print-undone, nothing-printed}
 use Rattle.page_rules.proofs.Sent.{pages-sent}
-use Rattle.page_rules.proofs.Examples.{example-line, example-leap, example-short, example-message, example-page}
+use Rattle.page_rules.proofs.Examples.{example-line, example-leap, example-short, example-first, example-message, example-page}
 
 entries-fit′ : EntriesFit
 entries-fit′ = entries-fit
@@ -54,6 +54,9 @@ example-leap′ = example-leap
 
 example-short′ : ExampleShort
 example-short′ = example-short
+
+example-first′ : ExampleFirst
+example-first′ = example-first
 
 example-message′ : ExampleMessage
 example-message′ = example-message

@@ -12,7 +12,7 @@ use Rattle.format.specs.declared.Due.{Due}
 use Rattle.sequence.specs.Reading.{Found, readFrames}
 use Rattle.page_rules.specs.Page.{pages}
 
--- "question 5 isn't put": reading with space for an entry a bit, which is more than the frames can be
+-- "question 5 isn't put": reading with space for an entry a bit, so never for fewer entries than there are frames
 unfoldable pub readOn : Due → List ℕ → Found
 readOn due f = readFrames (length f) due f
 

@@ -15,7 +15,7 @@ use Rattle.format.specs.Entry.{Entry}
 use Rattle.format.specs.Received.{Reception}
 use Rattle.sequence.specs.Reading.{readRecording}
 use Rattle.sequence.specs.Demand.{areReceptions, receivedBits, receivedEntries, messageFirst}
-use Rattle.page_rules.specs.Page.{lineWidth, linesPerPage, blanks, line, page, pageCount, pages}
+use Rattle.page_rules.specs.Page.{lineWidth, linesPerPage, blanks, aligned, line, feed, page, pages}
 use Rattle.page_rules.specs.Printing.{readAll, entriesOf, pagesOf, unprinted, printPages}
 
 -- ---- the entries of a recording
@@ -52,22 +52,25 @@ pub record SpaceAside : Type 0 where
 abbrev pub LineSize : Type 0
 LineSize = (f : List ℕ) → Each (λ e. length (line e) ≡ lineWidth) (entriesOf f)
 
--- the pages of a recording: 2,184 bytes for each 50 entries begun; page k, counted from 0, has the number k + 1 and the lines of the entries
--- from 50 * k on; every 42nd byte is a line feed, and no other is
+-- the pages of a recording: 2,184 bytes a page, and as many pages as entries over 50, rounded up; page k, counted from 0, begins with the
+-- number k + 1 and 41 dashes, and has the lines of the entries from 50 * k on; every 42nd byte is a line feed, and no other is
 pub record LaidOut (f : List ℕ) : Type 0 where
-  pub size : length (pagesOf f) ≡ 2184 * pageCount (length (entriesOf f))
-  pub page-at : (k : ℕ) → k < pageCount (length (entriesOf f))
+  pub size : length (pagesOf f) ≡ 2184 * ((length (entriesOf f) + 49) / 50)
+  pub head-at : (k : ℕ) → k < (length (entriesOf f) + 49) / 50
+      → take 84 (drop (2184 * k) (pagesOf f)) ≡ feed (aligned lineWidth (k + 1)) ++ feed (replicate lineWidth 45)
+  pub page-at : (k : ℕ) → k < (length (entriesOf f) + 49) / 50
       → take 2184 (drop (2184 * k) (pagesOf f)) ≡ page (k + 1) (take linesPerPage (drop (linesPerPage * k) (map line (entriesOf f))))
   pub line-feeds : (i : ℕ) → i < length (pagesOf f) → getD (pagesOf f) i 0 ≡ 10 ↔ (i % 42 ≡ 41)
 
 abbrev pub PagesLaidOut : Type 0
 PagesLaidOut = (f : List ℕ) → LaidOut f
 
--- the line of each entry, counted from 0, stands after the pages before its own and the two lines above the entries
+-- line i of those for entries, counted from 0 over all pages, stands after the pages before its own and the two lines above the entries: it is
+-- that of entry i, and 41 blanks where there is none
 abbrev pub EntryLines : Type 0
 EntryLines =
-    (f : List ℕ) (i : ℕ) → i < length (entriesOf f)
-    → take lineWidth (drop (2184 * (i / linesPerPage) + 42 * (i % linesPerPage + 2)) (pagesOf f)) ≡ getD (map line (entriesOf f)) i []
+    (f : List ℕ) (i : ℕ) → i < 50 * ((length (entriesOf f) + 49) / 50)
+    → take lineWidth (drop (2184 * (i / 50) + 42 * (i % 50 + 2)) (pagesOf f)) ≡ getD (map line (entriesOf f)) i (blanks lineWidth)
 
 -- what a line shows of an entry: minute and length, and of a time frame daylight state, leap, row, repaired place and echo
 unfoldable pub shown : Entry → List ℕ
@@ -97,7 +100,7 @@ pub record PrintAnswers : Type 0 where
 abbrev pub PrintDone : Type 0
 PrintDone =
     (buffer f : List ℕ) → printPages buffer f .refusal ≡ 0
-    → (printPages buffer f .bytes ≡ 2184 * pageCount (length (entriesOf f)))
+    → (printPages buffer f .bytes ≡ 2184 * ((length (entriesOf f) + 49) / 50))
     × (printPages buffer f .buffer ≡ pagesOf f ++ drop (length (pagesOf f)) buffer)
     × (length (printPages buffer f .buffer) ≡ length buffer)
 
@@ -140,6 +143,13 @@ ExampleShort =
     ≡ 32 ∷ 54 ∷ 53 ∷ 55 ∷ 51 ∷ 53 ∷ 57 ∷ 57 ∷ 32 ∷ 50 ∷ 48 ∷ 49 ∷ 50 ∷ 45 ∷ 48 ∷ 54 ∷ 45 ∷ 51 ∷ 48 ∷ 32 ∷ 50 ∷ 51 ∷ 58 ∷ 53 ∷ 57 ∷ 32
     ∷ 53 ∷ 57 ∷ 32 ∷ 49 ∷ 48 ∷ 32 ∷ 45 ∷ 32 ∷ 32 ∷ 53 ∷ 32 ∷ 49 ∷ 50 ∷ 32 ∷ 49 ∷ []
 
+-- 2000-01-01 00:09, a minute of one digit
+abbrev pub ExampleFirst : Type 0
+ExampleFirst =
+    line (record { minute = 9; seconds = 60; daylight = 0b00; leap = 0; row = 10; notice = 0; place = 3; echo = 1; message = 0; payload = 0 })
+    ≡ blanks 7 ++ (57 ∷ 32 ∷ 50 ∷ 48 ∷ 48 ∷ 48 ∷ 45 ∷ 48 ∷ 49 ∷ 45 ∷ 48 ∷ 49 ∷ 32 ∷ 48 ∷ 48 ∷ 58 ∷ 48 ∷ 57 ∷ 32
+    ∷ 54 ∷ 48 ∷ 32 ∷ 48 ∷ 48 ∷ 32 ∷ 32 ∷ 32 ∷ 49 ∷ 48 ∷ 32 ∷ 32 ∷ 51 ∷ 32 ∷ 49 ∷ [])
+
 -- a message in 2012-07-04 17:31
 abbrev pub ExampleMessage : Type 0
 ExampleMessage =
@@ -147,8 +157,9 @@ ExampleMessage =
     ≡ 32 ∷ 54 ∷ 53 ∷ 55 ∷ 56 ∷ 57 ∷ 55 ∷ 49 ∷ 32 ∷ 50 ∷ 48 ∷ 49 ∷ 50 ∷ 45 ∷ 48 ∷ 55 ∷ 45 ∷ 48 ∷ 52 ∷ 32 ∷ 49 ∷ 55 ∷ 58 ∷ 51 ∷ 49 ∷ 32
     ∷ 54 ∷ 48 ∷ 32 ∷ 32 ∷ 32 ∷ 32 ∷ 77 ∷ blanks 8
 
--- the first page of no lines: its number, dashes and 50 blank lines
+-- a page of no lines: its number, dashes and the last of 50 blank lines; and the number of page 893
 abbrev pub ExamplePage : Type 0
 ExamplePage =
     (take 84 (page 1 []) ≡ blanks 40 ++ (49 ∷ 10 ∷ []) ++ replicate 41 45 ++ (10 ∷ []))
     × (take 42 (drop 2142 (page 1 [])) ≡ blanks 41 ++ (10 ∷ []))
+    × (take 42 (page 893 []) ≡ blanks 38 ++ (56 ∷ 57 ∷ 51 ∷ 10 ∷ []))
