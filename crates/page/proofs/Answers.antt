@@ -23,7 +23,8 @@ count-of : (n : ℕ) (r : Found) → found (n ∷ []) ≡ counted r → (r .refu
 unfolding counted
 count-of n r h = go (eqb (r .refusal) 0) refl h
   where
-    go : (b : Bool) → eqb (r .refusal) 0 ≡ b → found (n ∷ []) ≡ pick b (found (length (r .entries) ∷ [])) (refused (r .refusal)) → (r .refusal ≡ 0) × (n ≡ length (r .entries))
+    go : (b : Bool) → eqb (r .refusal) 0 ≡ b → found (n ∷ []) ≡ pick b (found (length (r .entries) ∷ [])) (refused (r .refusal))
+        → (r .refusal ≡ 0) × (n ≡ length (r .entries))
     go true e h = (eqb-true (r .refusal) 0 e, ap (λ (x : Numbers). getD (x .values) 0 0) h)
     go false e h = absurd (eqb-false (r .refusal) 0 e (sym (ap (λ (x : Numbers). x .number) h)))
 

@@ -13,7 +13,7 @@ use Rattle.format.specs.Entry.{Entry, entrySize}
 use Rattle.sequence.proofs.Putting.{Put, put-of, put-more, rest-length}
 use Rattle.page_rules.specs.Page.{blanks, aligned, line, pageLines, feed, page}
 use Rattle.page_rules.specs.Theorems.{Each, Fits}
-use Rattle.page_rules.proofs.Lines.{every-append, every-many, every-take, every-line, Line, Lines, line-entry, line-many, text, length-text}
+use Rattle.page_rules.proofs.Lines.{every-append, every-many, every-take, every-line, Line, Lines, line-entry, line-many, text, length-text, getD-filled}
 use Rattle.page_rules.proofs.Pages.{fitting, text-append}
 use Rattle.page_columns.specs.Bytes.{entryIn}
 use Rattle.page.specs.Bytes.{entriesFrom, entriesIn, lineAt, linesText}
@@ -36,11 +36,11 @@ next-entry i s =
     let e : entrySize + entrySize * i ≡ entrySize * suc i = omega arith in
     ap (take entrySize) (drop-drop (entrySize * i) entrySize s ∙ ap (λ (k : ℕ). drop k s) e)
 
-fits-from : (n i : ℕ) (s : List ℕ) → i < n → Each Fits (entriesFrom n s) → Fits (entryIn (entryAt i s))
+fits-at : (n i : ℕ) (s : List ℕ) → i < n → Each Fits (entriesFrom n s) → Fits (entryIn (entryAt i s))
 unfolding entriesFrom
-fits-from zero i s h f = absurd (omega arith)
-fits-from (suc n) zero s h f = f .0
-fits-from (suc n) (suc i) s h f = rw (← next-entry i s) (fits-from n i (drop entrySize s) (omega arith) (f .1))
+fits-at zero i s h f = absurd (omega arith)
+fits-at (suc n) zero s h f = f .0
+fits-at (suc n) (suc i) s h f = rw (← next-entry i s) (fits-at n i (drop entrySize s) (omega arith) (f .1))
 
 line-from : (n i : ℕ) (s d : List ℕ) → i < n → getD (map line (entriesFrom n s)) i d ≡ line (entryIn (entryAt i s))
 unfolding entriesFrom
@@ -75,7 +75,7 @@ module _ (i : ℕ) (s : List ℕ) (whole : length s % entrySize ≡ 0) (f : Each
 
   pub entry-fit : entrySize * i < length s → Fits (entryIn (entryAt i s))
   unfolding entriesIn
-  entry-fit h = fits-from (length s / entrySize) i s (omega arith) f
+  entry-fit h = fits-at (length s / entrySize) i s (omega arith) f
 
   pub entry-whole : entrySize * i < length s → length (entryAt i s) ≡ entrySize
   entry-whole h = omega (arith, length-take entrySize (drop (entrySize * i) s), length-drop (entrySize * i) s)
@@ -85,13 +85,6 @@ module _ (i : ℕ) (s : List ℕ) (whole : length s % entrySize ≡ 0) (f : Each
 -- those of entries, and blank ones after them
 abbrev lines : ℕ → List Entry → List (List ℕ)
 lines n es = map line es ++ replicate (n - length (map line es)) (blanks 41)
-
-getD-filled : (ls : List (List ℕ)) (n i : ℕ) (d : List ℕ) → i < length ls + n → getD (ls ++ replicate n d) i [] ≡ getD ls i d
-getD-filled [] zero i d h = absurd (omega arith)
-getD-filled [] (suc n) zero d h = refl
-getD-filled [] (suc n) (suc i) d h = getD-filled [] n i d (omega arith)
-getD-filled (l ∷ ls) n zero d h = refl
-getD-filled (l ∷ ls) n (suc i) d h = getD-filled ls n i d (omega arith)
 
 -- one line more
 text-one : (ls : List (List ℕ)) (k : ℕ) → k < length ls → text (take (suc k) ls) ≡ text (take k ls) ++ feed (getD ls k [])
@@ -164,7 +157,8 @@ fill (suc n) (l ∷ ls) = l ∷ fill n ls
 fill-parts : (m n : ℕ) (ls : List (List ℕ)) → fill (m + n) ls ≡ fill m ls ++ fill n (drop m ls)
 unfolding fill
 fill-parts zero n ls = rw (zero-add n)
-fill-parts (suc m) n [] = rw (suc-add m n) (ap (λ (w : List (List ℕ)). blanks 41 ∷ w) (fill-parts m n [] ∙ ap (λ (w : List (List ℕ)). fill m [] ++ fill n w) (drop-nil m)))
+fill-parts (suc m) n [] =
+    rw (suc-add m n) (ap (λ (w : List (List ℕ)). blanks 41 ∷ w) (fill-parts m n [] ∙ ap (λ (w : List (List ℕ)). fill m [] ++ fill n w) (drop-nil m)))
 fill-parts (suc m) n (l ∷ ls) = rw (suc-add m n) (ap (λ (w : List (List ℕ)). l ∷ w) (fill-parts m n ls))
 
 fill-take : (n : ℕ) (ls : List (List ℕ)) → fill n (take n ls) ≡ fill n ls

@@ -1,4 +1,4 @@
-// A recording printed as pages of the shift book: two passes over its bits, a page of entries at a time.
+// A recording printed as pages of the shift book: two passes over its bits, ten entries at a time.
 ghost use mathlib.Core.Path.{_≡_};
 ghost use mathlib.Core.List.{_++_, map};
 ghost use Prim.Native.Nat.{_%_, _≤_, _<_};
@@ -8,7 +8,7 @@ ghost use Rattle.page_rules.specs.Page.{line, feed, page};
 ghost use Rattle.page_rules.specs.Printing.{readOn, readAll, pagesOf, printPages};
 ghost use Rattle.page_rules.specs.Theorems.{Each, Fits};
 ghost use Rattle.page.specs.Bytes.{entriesIn, lineAt, linesText};
-ghost use Rattle.page.specs.Rest.{pageEntries, RestAfter};
+ghost use Rattle.page.specs.Rest.{pageEntries, restAfter};
 ghost use Rattle.page.specs.Answer.{counted, countNumbers, printOutcome};
 use entries::ENTRY_SIZE;
 use entries::End;
@@ -124,7 +124,7 @@ fn put_part(entries: &[u8], out: &mut [u8])
 fn put_parts(bits: &[u8], due: Due, out: &mut [u8]) -> Rest
     requires { ⌜ (readOn due (now bits) .refusal ≡ 0) × (2100 ≤ length (now out)) ⌝ }
     ensures { λ r.
-        ⌜ RestAfter due (now (bits .entry)) r
+        ⌜ (r ≡ restAfter due (now (bits .entry)))
         × (now (out .exit)
         ≡ linesText 50 (pageEntries due (now (bits .entry))) ++ drop 2100 (now (out .entry))) ⌝ }
 {
@@ -148,7 +148,7 @@ fn put_parts(bits: &[u8], due: Due, out: &mut [u8]) -> Rest
 fn put_page(bits: &[u8], due: Due, number: u32, out: &mut [u8]) -> Rest
     requires { ⌜ (readOn due (now bits) .refusal ≡ 0) × (2184 ≤ length (now out)) ⌝ }
     ensures { λ r.
-        ⌜ RestAfter due (now (bits .entry)) r
+        ⌜ (r ≡ restAfter due (now (bits .entry)))
         × (now (out .exit)
         ≡ page number (map line (pageEntries due (now (bits .entry)))) ++ drop 2184 (now (out .entry))) ⌝ }
 {

@@ -45,7 +45,8 @@ module _
   by-frames zero due (b ∷ f) = subst (P 0 due (b ∷ f)) (sym (no-space due (b ∷ f) (omega arith))) (at-5 due (b ∷ f) (omega arith))
   by-frames (suc n) due (b ∷ f) = go (readNext due false (b ∷ f)) refl (by-frames n)
     where
-      go : (a : Answer) → readNext due false (b ∷ f) ≡ a → ((d : Due) (g : List ℕ) → P n d g (readFrames n d g)) → P (suc n) due (b ∷ f) (readFrames (suc n) due (b ∷ f))
+      go : (a : Answer) → readNext due false (b ∷ f) ≡ a → ((d : Due) (g : List ℕ) → P n d g (readFrames n d g))
+          → P (suc n) due (b ∷ f) (readFrames (suc n) due (b ∷ f))
       go (refused r) q next =
           subst (P (suc n) due (b ∷ f)) (sym (frame-refused n due (b ∷ f) (omega arith) r q)) (at-no n due (b ∷ f) r (omega arith) q)
       go (entry e) q next =

@@ -120,27 +120,33 @@ PagesSent =
     → legalSchedule p ≡ true → m + n ≤ minuteCount → length rs ≡ n → areReceptions p m rs ≡ true → messageFirst p m n ≡ false
     → (readAll (receivedBits p m n rs) .refusal ≡ 0) × (pagesOf (receivedBits p m n rs) ≡ pages (receivedEntries p m rs))
 
--- ---- worked examples
+-- ---- worked examples: a text line for the minute, one for the date, one for the time, and one for the other columns
 
 -- 2012-07-04 17:30 by rows 10 and 37, place 31 repaired, with a wrong echo
 abbrev pub ExampleLine : Type 0
 ExampleLine =
     line (record { minute = 6_578_970; seconds = 60; daylight = 0b11; leap = 0; row = 37; notice = 0; place = 31; echo = 0; message = 0; payload = 0 })
-    ≡ 32 ∷ 54 ∷ 53 ∷ 55 ∷ 56 ∷ 57 ∷ 55 ∷ 48 ∷ 32 ∷ 50 ∷ 48 ∷ 49 ∷ 50 ∷ 45 ∷ 48 ∷ 55 ∷ 45 ∷ 48 ∷ 52 ∷ 32 ∷ 49 ∷ 55 ∷ 58 ∷ 51 ∷ 48 ∷ 32
+    ≡ 32 ∷ 54 ∷ 53 ∷ 55 ∷ 56 ∷ 57 ∷ 55 ∷ 48 ∷ 32
+    ∷ 50 ∷ 48 ∷ 49 ∷ 50 ∷ 45 ∷ 48 ∷ 55 ∷ 45 ∷ 48 ∷ 52 ∷ 32
+    ∷ 49 ∷ 55 ∷ 58 ∷ 51 ∷ 48 ∷ 32
     ∷ 54 ∷ 48 ∷ 32 ∷ 49 ∷ 49 ∷ 32 ∷ 32 ∷ 32 ∷ 51 ∷ 55 ∷ 32 ∷ 51 ∷ 49 ∷ 32 ∷ 48 ∷ []
 
 -- 2012-06-30 23:59, a minute of 61 seconds, with place 0: a state that ends today, +, row 5
 abbrev pub ExampleLeap : Type 0
 ExampleLeap =
     line (record { minute = 6_573_599; seconds = 61; daylight = 0b01; leap = 2; row = 5; notice = 1; place = 0; echo = 1; message = 0; payload = 0 })
-    ≡ 32 ∷ 54 ∷ 53 ∷ 55 ∷ 51 ∷ 53 ∷ 57 ∷ 57 ∷ 32 ∷ 50 ∷ 48 ∷ 49 ∷ 50 ∷ 45 ∷ 48 ∷ 54 ∷ 45 ∷ 51 ∷ 48 ∷ 32 ∷ 50 ∷ 51 ∷ 58 ∷ 53 ∷ 57 ∷ 32
+    ≡ 32 ∷ 54 ∷ 53 ∷ 55 ∷ 51 ∷ 53 ∷ 57 ∷ 57 ∷ 32
+    ∷ 50 ∷ 48 ∷ 49 ∷ 50 ∷ 45 ∷ 48 ∷ 54 ∷ 45 ∷ 51 ∷ 48 ∷ 32
+    ∷ 50 ∷ 51 ∷ 58 ∷ 53 ∷ 57 ∷ 32
     ∷ 54 ∷ 49 ∷ 32 ∷ 48 ∷ 49 ∷ 32 ∷ 43 ∷ 32 ∷ 32 ∷ 53 ∷ 32 ∷ 32 ∷ 48 ∷ 32 ∷ 49 ∷ []
 
 -- the same minute with 59 seconds: a state that begins today, -, place 12 repaired
 abbrev pub ExampleShort : Type 0
 ExampleShort =
     line (record { minute = 6_573_599; seconds = 59; daylight = 0b10; leap = 1; row = 5; notice = 1; place = 12; echo = 1; message = 0; payload = 0 })
-    ≡ 32 ∷ 54 ∷ 53 ∷ 55 ∷ 51 ∷ 53 ∷ 57 ∷ 57 ∷ 32 ∷ 50 ∷ 48 ∷ 49 ∷ 50 ∷ 45 ∷ 48 ∷ 54 ∷ 45 ∷ 51 ∷ 48 ∷ 32 ∷ 50 ∷ 51 ∷ 58 ∷ 53 ∷ 57 ∷ 32
+    ≡ 32 ∷ 54 ∷ 53 ∷ 55 ∷ 51 ∷ 53 ∷ 57 ∷ 57 ∷ 32
+    ∷ 50 ∷ 48 ∷ 49 ∷ 50 ∷ 45 ∷ 48 ∷ 54 ∷ 45 ∷ 51 ∷ 48 ∷ 32
+    ∷ 50 ∷ 51 ∷ 58 ∷ 53 ∷ 57 ∷ 32
     ∷ 53 ∷ 57 ∷ 32 ∷ 49 ∷ 48 ∷ 32 ∷ 45 ∷ 32 ∷ 32 ∷ 53 ∷ 32 ∷ 49 ∷ 50 ∷ 32 ∷ 49 ∷ []
 
 -- 2000-01-01 00:09, a minute of one digit
@@ -154,7 +160,9 @@ ExampleFirst =
 abbrev pub ExampleMessage : Type 0
 ExampleMessage =
     line (record { minute = 6_578_971; seconds = 60; daylight = 0; leap = 0; row = 0; notice = 0; place = 0; echo = 1; message = 1; payload = 5 })
-    ≡ 32 ∷ 54 ∷ 53 ∷ 55 ∷ 56 ∷ 57 ∷ 55 ∷ 49 ∷ 32 ∷ 50 ∷ 48 ∷ 49 ∷ 50 ∷ 45 ∷ 48 ∷ 55 ∷ 45 ∷ 48 ∷ 52 ∷ 32 ∷ 49 ∷ 55 ∷ 58 ∷ 51 ∷ 49 ∷ 32
+    ≡ 32 ∷ 54 ∷ 53 ∷ 55 ∷ 56 ∷ 57 ∷ 55 ∷ 49 ∷ 32
+    ∷ 50 ∷ 48 ∷ 49 ∷ 50 ∷ 45 ∷ 48 ∷ 55 ∷ 45 ∷ 48 ∷ 52 ∷ 32
+    ∷ 49 ∷ 55 ∷ 58 ∷ 51 ∷ 49 ∷ 32
     ∷ 54 ∷ 48 ∷ 32 ∷ 32 ∷ 32 ∷ 32 ∷ 77 ∷ blanks 8
 
 -- a page of no lines: its number, dashes and the last of 50 blank lines; and the number of page 893

@@ -92,7 +92,8 @@ add-t17 c = omega (arith, few (c .before .before .before .before))
 returns : tie.Need-returns Inv-loop μ-loop
 returns c =
     let r = c .before .before .before .before in
-    counted-complete (a r .loop .count) (a r .loop .due) (rest (a r)) _ _ (r .read-from .result) (got r) (readAll (bits (a r))) (a r .loop .inv .3) (c .before .enum-told .given .1)
+    counted-complete (a r .loop .count) (a r .loop .due) (rest (a r)) _ _ (r .read-from .result) (got r) (readAll (bits (a r))) (a r .loop .inv .3)
+    (c .before .enum-told .given .1)
 
 enum-known-end : tie.Need-enum-known-end Inv-loop μ-loop
 enum-known-end c = search needs

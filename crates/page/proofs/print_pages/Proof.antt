@@ -1,7 +1,5 @@
 -- `page::print_pages` meets its contract.
 -- Assumes nothing.
-use Prim.Native.Nat.{ℕ}
-use mathlib.Core.List.{List}
 use mathlib.Core.Path.{sym, ap, _∙_}
 use native.Mathlib.Omega.{arith}
 use borrow.Author.Needs.{needs}
@@ -33,7 +31,8 @@ returns : tie.Need-returns
 returns c =
     let b = c .before .before .before .before .before .before .before in
     let k = c .before .before .before .before .count-entries in
-    print-short (b .args .bits .now) (b .args .out .now) (c .before .before .count2 .given .0 .0) (sym (ap countNumbers (c .before .before .count2 .given .1)) ∙ k .ensures) (omega arith)
+    let g = c .before .before .count2 .given in
+    print-short (b .args .bits .now) (b .args .out .now) (g .0 .0) (sym (ap countNumbers (g .1)) ∙ k .ensures) (omega arith)
 
 put-pages-requires : tie.Need-put-pages-requires
 put-pages-requires c κs =

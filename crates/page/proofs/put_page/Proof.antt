@@ -31,7 +31,7 @@ returns c =
     let h = c .before .before .before .before .before .before in
     let b = h .before .before .before .before in
     let p = c .before .before .put-parts in
-    let e = page-entries (b .args .due) (b .args .bits .now) in (
+    let e = page-entries (b .args .due) (b .args .bits .now) (b .pre .0) in (
       p .ensures .0,
       put-page-made (b .args .number) (pageEntries (b .args .due) (b .args .bits .now)) (b .args .out .now) (h .put-head .last .1 .0) (p .last .1 .1 .0)
           (omega (arith, b .fits .number)) (e .0) (e .1) (b .pre .1) (h .put-head .ensures) (p .ensures .1),

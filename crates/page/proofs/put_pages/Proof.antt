@@ -1,18 +1,17 @@
 -- `page::put_pages` meets its contract.
 -- Assumes nothing.
 use Prim.Native.Nat.{ℕ, _+_, _-_, _*_, _^_, _≤_, _<_}
-use mathlib.Core.List.{List, [], _++_, map}
+use mathlib.Core.List.{List, _++_, map}
 use mathlib.Core.Path.{_≡_, refl, sym, ap, subst, _∙_}
 use native.Mathlib.Omega.{arith}
-use borrow.Author.Needs.{needs}
 use lib.ListN.{length, take, drop, length-drop, drop-of-length-le}
 use lib.Seq.{drop-drop}
 use Rattle.sequence.proofs.Tails.{tail}
 use Rattle.sequence.proofs.Putting.{Put, put-length}
 use Rattle.page_rules.specs.Page.{line, page, pagesFrom, pageCount}
 use Rattle.page_rules.specs.Printing.{readOn, entriesOf}
-use Rattle.page.specs.Rest.{pageEntries, RestAfter}
-use Rattle.page.proofs.Pages.{Printing, printing-none, printed-all, page-within, printing-next, put-next-page, next-room, number-small}
+use Rattle.page.specs.Rest.{pageEntries, restAfter}
+use Rattle.page.proofs.Pages.{RestAfter, rest-after, Printing, printing-none, printed-all, page-within, printing-next, put-next-page, next-room, number-small}
 use Rattle.page.proofs.put_pages.Statement.{statement}
 use Rattle.page.proofs.put_pages.Tie as tie
 
@@ -72,10 +71,11 @@ module _ (c : tie.After-struct-known Inv-loop μ-loop) where
   left : at .loop .used < length (bits at)
   left = omega arith
 
-  after : RestAfter (at .loop .due) (rest at) (c .before .before .before .put-page .result)
+  after : RestAfter 50 (at .loop .due) (rest at) (c .before .before .before .put-page .result)
   after =
-      subst (λ (f : List ℕ). RestAfter (at .loop .due) f (c .before .before .before .put-page .result)) (tail (bits at) (at .loop .used))
-      (c .before .before .before .put-page .ensures .0)
+      subst (RestAfter 50 (at .loop .due) (rest at))
+      (sym (c .before .before .before .put-page .ensures .0 ∙ ap (restAfter (at .loop .due)) (tail (bits at) (at .loop .used))))
+      (rest-after (at .loop .due) (rest at) (so-far at .going .accepted))
 
   page-is : c .before .before .before .put-page .last .1 .1 .1 .0
       ≡ page (at .loop .number) (map line (pageEntries (at .loop .due) (rest at)))
@@ -86,7 +86,7 @@ module _ (c : tie.After-struct-known Inv-loop μ-loop) where
       ++ drop 2184 (take (length (at .loop .out) - at .loop .at) (drop (at .loop .at) (at .loop .out)))) (tail (bits at) (at .loop .used))
 
   bits-left : (at .loop .used + c .before .before .before .put-page .result .used ≤ length (bits at)) × (0 < c .before .before .before .put-page .result .used)
-  bits-left = (omega (arith, after .within, length-drop (at .loop .used) (bits at), at .loop .inv .0), after .some (some at left))
+  bits-left = (omega (arith, after .within, length-drop (at .loop .used) (bits at), at .loop .inv .0), after .some (omega arith) (some at left))
 
   next : done at + 1 ≡ at .loop .number + 1 - 1
   next = omega (arith, at .loop .inv .1)
