@@ -20,6 +20,7 @@ linesPerPage = 50
 
 -- ---- columns
 
+-- n blanks
 unfoldable pub blanks : ℕ → List ℕ
 blanks n = replicate n 32
 

@@ -62,6 +62,7 @@ pub record LaidOut (f : List ℕ) : Type 0 where
       → take 2184 (drop (2184 * k) (pagesOf f)) ≡ page (k + 1) (take linesPerPage (drop (linesPerPage * k) (map line (entriesOf f))))
   pub line-feeds : (i : ℕ) → i < length (pagesOf f) → getD (pagesOf f) i 0 ≡ 10 ↔ (i % 42 ≡ 41)
 
+-- so it is with every recording
 abbrev pub PagesLaidOut : Type 0
 PagesLaidOut = (f : List ℕ) → LaidOut f
 
