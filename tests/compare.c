@@ -2527,7 +2527,7 @@ static int report(void)
     printf("%-22s", "  pages by digits");
     for (n = 1; n < 5; n++) {
         printf(" %u:%lu", n, page_digits[n]);
-        missing += page_digits[n] == 0;
+        missing += page_digits[n] == 0 && !(exact && n == 4); /* too long for valgrind */
     }
     printf("\n%-22s", "  lines by digits");
     for (n = 1; n < 9; n++) {
