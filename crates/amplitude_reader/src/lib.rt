@@ -1,4 +1,6 @@
 // The amplitude code, read one minute a call.
+#![tactic(auto)]
+
 ghost use Rattle.std.specs.Prelude.{◌≡◌, true, ◌||◌, ◌+◌, ◌*◌, ◌<◌, eqb};
 ghost use Rattle.gregorian.specs.Gregorian.{year_count};
 ghost use Rattle.calendar.specs.Calendar.{last_of_month};
@@ -13,7 +15,7 @@ use calendar::Date;
 use plan::{MAX_FRAME, MIN_FRAME, USUAL_FRAME};
 
 // The values of the symbols, or the question that was answered no: 17 and 18.
-#[derive(Drop)]
+#[derive(Clone, Copy)]
 pub enum ReadAnswer {
     Read(Values),
     BadSymbols,

@@ -1,7 +1,8 @@
 // The amplitude code: definitions and theorems, no code. The structs are records of the definitions.
+#![tactic(auto)]
 
 // The numbers in the fields of a minute; the day of the year is counted from 1, the year from 2000.
-#[derive(Drop)]
+#[derive(Clone, Copy)]
 pub struct Fields {
     pub minute: u32,
     pub hour: u32,
@@ -15,7 +16,7 @@ pub struct Fields {
 }
 
 // The values of a minute: its number, UT1 as a sign and tenths, leap warning, daylight state and length.
-#[derive(Drop)]
+#[derive(Clone, Copy)]
 pub struct Values {
     pub minute: u32,
     pub sign: i32,

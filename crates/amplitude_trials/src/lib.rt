@@ -1,4 +1,6 @@
 // What `vectors` tries of the amplitude code: minutes written and read.
+#![tactic(auto)]
+
 use amplitude_reader::ReadAnswer;
 use amplitude_rules::Values;
 use amplitude_writer::WriteAnswer;
@@ -84,6 +86,6 @@ fn minute(plan: &[u8], ut1: &[u8]) {
 // `plan .. minute M, UT1 SIGN TENTHS, in SPACE:` is taken in two halves, as each may have a minus. The first number of the second
 // half is the 1 of `UT1`; the messages of a plan come last, as in `plan .. in SPACE, 10 bytes of messages MINUTE DATA:`.
 pub fn written(text: &[u8]) {
-    let comma = bytes::scan::find(text, 0, text.len(), b',');
+    let comma = spans::find(text, 0, text.len(), b',');
     minute(&text[0..comma], &text[comma..]);
 }

@@ -1,4 +1,6 @@
 // The amplitude code, written one minute a call by a plan with messages.
+#![tactic(auto)]
+
 ghost use Rattle.std.specs.Prelude.{◌≡◌, true, ◌++◌, ◌-◌, ◌≤◌, ◌<◌, length, take, drop, replicate};
 ghost use Rattle.calendar.specs.Calendar.{minute_count};
 ghost use Rattle.codewords.specs.CodeWords.{daylight_number};
@@ -15,7 +17,7 @@ use calendar::Date;
 use plan::Plan;
 
 // The question that was answered no: 1, 3, 18 and 4.
-#[derive(Drop)]
+#[derive(Clone, Copy)]
 pub enum WriteRefusal {
     IllegalPlan,
     Minute,
@@ -24,7 +26,7 @@ pub enum WriteRefusal {
 }
 
 // The number of symbols, or the refusal.
-#[derive(Drop)]
+#[derive(Clone, Copy)]
 pub enum WriteAnswer {
     Written(usize),
     Refused(WriteRefusal),

@@ -1,4 +1,6 @@
 // The work of `shiftbook`: from the digits of a recording to the text of its pages.
+#![tactic(auto)]
+
 ghost use Rattle.std.specs.Prelude.{◌≡◌, ◌++◌, ◌≤◌, length, drop};
 ghost use Rattle.listing.specs.Listing.{refused_text};
 ghost use Rattle.book.specs.Book.{is_gap, bit_in, bits_in, book_limit, recording_text, printed, gathered, input_after};

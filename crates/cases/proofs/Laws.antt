@@ -6,7 +6,7 @@ use native.Mathlib.Decide.{dec_lt}
 use borrow.Author.Tests.{lt-leb}
 use Rattle.bits.specs.Bits.{pick}
 use Rattle.cases.specs.Cases.{folded, is_digit, outside, inside, stepped, long_at, number_at, signed_at, byte_of, message_byte, given_at}
-use Rattle.bytes.specs.Bytes.{index_of, slice}
+use Rattle.spans.specs.Bytes.{index_of, slice}
 use Rattle.line.proofs.Parts.{search-rest}
 use Rattle.line.proofs.Signs.{pos-fits, neg_small}
 use Rattle.cases.specs.declared.Scan.{Scan}

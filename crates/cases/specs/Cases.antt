@@ -3,7 +3,7 @@
 -- Assumes nothing.
 use Rattle.std.specs.Prelude.{ℕ, ◌+◌, ◌-◌, ◌*◌, ◌/◌, ◌%◌, ◌^◌, Bool, ◌&&◌, List, [], ◌∷◌, length, ℤ, pos, neg_ℤ, ◌==◌, nat_le, nat_lt, slice_index_or}
 use Rattle.bits.specs.Bits.{pick}
-use Rattle.bytes.specs.Bytes.{index_of}
+use Rattle.spans.specs.Bytes.{index_of}
 use Rattle.plan.specs.declared.Plan.{Plan}
 use Rattle.cases.specs.declared.Scan.{Scan}
 

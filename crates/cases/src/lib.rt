@@ -1,4 +1,6 @@
 // What the text of a case holds: its numbers, a plan, messages and given bits; and the check sum of a text.
+#![tactic(auto)]
+
 ghost use Rattle.std.specs.Prelude.{◌≡◌, ℕ, ◌+◌, ◌*◌, ◌%◌, ◌<◌, length, slice_index};
 ghost use Rattle.bits.specs.Bits.{pick};
 ghost use Rattle.cases.specs.Cases.{outside, stepped, long_at, number_at, signed_at, plan_in, count_in, byte_of, message_byte, given_at, check_sum};
@@ -6,7 +8,7 @@ ghost use Rattle.cases.specs.Cases.{outside, stepped, long_at, number_at, signed
 use plan::Plan;
 
 // What was found so far: how many numbers ended, the wanted one, and 1 where the last byte was a digit.
-#[derive(Drop)]
+#[derive(Clone, Copy)]
 pub struct Scan {
     pub ended: u32,
     pub value: u64,
@@ -91,7 +93,7 @@ pub fn size(text: &[u8], k: u32) -> usize
 pub fn signed(text: &[u8], k: u32) -> i32
     ensures { result ≡ signed_at k text.now }
 {
-    let minus = bytes::scan::find(text, 0, text.len(), MINUS);
+    let minus = spans::find(text, 0, text.len(), MINUS);
     let size = (number(text, k) % 65536) as i32;
     if minus < text.len() { 0 - size } else { size }
 }

@@ -1,4 +1,6 @@
 // Frames read into entries: one frame, or a recording, from a state on.
+#![tactic(auto)]
+
 ghost use Rattle.std.specs.Prelude.{◌≡◌, ◌++◌, ◌≤◌, length, drop};
 ghost use Rattle.bits.specs.Bits.{pick};
 ghost use Rattle.calendar.specs.Calendar.{last_of_month};
@@ -17,14 +19,14 @@ use format::Due;
 use frame::{Fields, FrameAnswer, LEAP_UNKNOWN, Refusal, Told};
 
 // How a reading ended.
-#[derive(Drop)]
+#[derive(Clone, Copy)]
 pub enum End {
     Complete,
     Refused(Refusal),
 }
 
 // The entries written, the bits that they took, the end, and the state after them.
-#[derive(Drop)]
+#[derive(Clone, Copy)]
 pub struct Summary {
     pub entries: usize,
     pub used: usize,
@@ -33,7 +35,7 @@ pub struct Summary {
 }
 
 // How the reading of one frame ended, and the state after it.
-#[derive(Drop)]
+#[derive(Clone, Copy)]
 pub struct One {
     pub end: End,
     pub due: Due,
@@ -42,7 +44,7 @@ pub struct One {
 // What the step of reading came to: the frame's number of bits, with the minute that is due after it and the leap state
 // last read in the month of that minute; or the refusal. The three numbers stand side by side: a Due for the last two
 // would be stored in pieces and loaded as a whole, and each frame would wait for it.
-#[derive(Drop)]
+#[derive(Clone, Copy)]
 enum Step {
     Advance(u8, u32, u8),
     Halt(Refusal),
@@ -93,7 +95,7 @@ fn put_entry(state: State, fields: Fields, out: &mut [u8])
         0,
         0,
     ];
-    bytes::copy(&entry, out);
+    spans::copy(&entry, out);
 }
 
 // Writes the entry of a message to the front of out.
@@ -123,7 +125,7 @@ fn put_message(told: Told, out: &mut [u8])
         (payload / 0x100 % 256) as u8,
         (payload % 256) as u8,
     ];
-    bytes::copy(&entry, out);
+    spans::copy(&entry, out);
 }
 
 // The leap state last read in the month of the minute that is due.

@@ -1,4 +1,6 @@
 // One frame: writing it and reading it.
+#![tactic(auto)]
+
 mod message;
 
 ghost use Rattle.std.specs.Prelude.{◌≡◌, true, ◌&&◌, ◌++◌, ◌-◌, ◌/◌, ◌%◌, ◌^◌, ◌≤◌, ◌<◌, length, take, drop, replicate};
@@ -22,7 +24,7 @@ use format::Due;
 use plan::Plan;
 
 // The question that was answered no, numbers 5 to 11, 13, 14, 19 and 20.
-#[derive(Drop)]
+#[derive(Clone, Copy)]
 pub enum Refusal {
     EntrySpace,
     Short,
@@ -38,7 +40,7 @@ pub enum Refusal {
 }
 
 // What a time frame says beside its state. The place is the repaired one, or 0; the echo is 1 where it is right.
-#[derive(Drop)]
+#[derive(Clone, Copy)]
 pub struct Fields {
     pub minute: u32,
     pub length: u8,
@@ -49,7 +51,7 @@ pub struct Fields {
 }
 
 // What a message says. The minute is the counted one, and the length that of its place.
-#[derive(Drop)]
+#[derive(Clone, Copy)]
 pub struct Told {
     pub minute: u32,
     pub length: u8,
@@ -58,7 +60,7 @@ pub struct Told {
 }
 
 // A time frame's state and fields, what a message says, or the refusal.
-#[derive(Drop)]
+#[derive(Clone, Copy)]
 pub enum FrameAnswer {
     Read(State, Fields),
     Message(Told),

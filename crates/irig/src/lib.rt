@@ -1,4 +1,6 @@
 // IRIG 200 format B, one second a call: written by a plan with messages, and read.
+#![tactic(auto)]
+
 ghost use Rattle.std.specs.Prelude.{◌≡◌, ◌≤◌, ◌<◌, length};
 ghost use Rattle.calendar.specs.Calendar.{minute_count};
 ghost use Rattle.messages.specs.Bytes.{schedule_of};
@@ -13,7 +15,7 @@ use irig_rules::Clock;
 use plan::Plan;
 
 // The question that was answered no: 1, 3, 21 and 4.
-#[derive(Drop)]
+#[derive(Clone, Copy)]
 pub enum WriteRefusal {
     IllegalPlan,
     Minute,
@@ -22,14 +24,14 @@ pub enum WriteRefusal {
 }
 
 // The number of elements, or the refusal.
-#[derive(Drop)]
+#[derive(Clone, Copy)]
 pub enum WriteAnswer {
     Written(usize),
     Refused(WriteRefusal),
 }
 
 // The day of the year and the second of the day, or 21: no legal plan, minute and second give the elements.
-#[derive(Drop)]
+#[derive(Clone, Copy)]
 pub enum ReadAnswer {
     Second(u32, u32),
     NoSecond,

@@ -1,4 +1,6 @@
 // The row of a second of IRIG 200 format B: its 100 elements, written and compared, and the time in them.
+#![tactic(auto)]
+
 ghost use Rattle.std.specs.Prelude.{true, ◌++◌, ◌≡◌, ◌+◌, ◌≤◌, ◌<◌, eqb, length, take, drop};
 ghost use Rattle.bits.specs.Bits.{distance};
 ghost use Rattle.bits.specs.Gathered.{low_bytes};

@@ -1,4 +1,6 @@
 // What `vectors` tries of IRIG B: seconds written and read.
+#![tactic(auto)]
+
 use irig::{ReadAnswer, WriteAnswer};
 use trials::show;
 

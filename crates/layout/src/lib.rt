@@ -1,4 +1,6 @@
 // Where the fields stand in bits 0 to 58 of a frame, taken as one number.
+#![tactic(auto)]
+
 ghost use Rattle.std.specs.Prelude.{◌≡◌, ◌%◌, ◌^◌, ◌<◌, eqb, get_or};
 ghost use Rattle.bits.specs.Bits.{bits, number, pick};
 ghost use Rattle.format.specs.Frame.{min_frame, word_in, state_in};

@@ -1,4 +1,6 @@
 // Messages as bytes: ten for each, its minute and its data.
+#![tactic(auto)]
+
 ghost use Rattle.std.specs.Prelude.{◌≡◌, ◌+◌, ◌*◌, ◌/◌, ◌%◌, ◌≤◌, ◌<◌, length};
 ghost use Rattle.messages.specs.Message.{legal_messages};
 ghost use Rattle.messages.specs.Bytes.{message_size, big_endian, message_at, messages_in};

@@ -1,4 +1,6 @@
 // A recording printed as pages of the shift book: two passes over its bits, ten entries at a time.
+#![tactic(auto)]
+
 ghost use Rattle.std.specs.Prelude.{◌≡◌, ◌++◌, map, ◌%◌, ◌≤◌, ◌<◌, length, replicate, drop};
 ghost use Rattle.format.specs.Entry.{entry_size};
 ghost use Rattle.page_rules.specs.Page.{line, feed, page};
@@ -14,7 +16,7 @@ use frame::Refusal;
 use page_lines::{HEAD_SIZE, LINE_SIZE};
 
 // What printing came to: the bytes written, a buffer that is too short, or the refusal of the recording.
-#[derive(Drop)]
+#[derive(Clone, Copy)]
 pub enum PrintAnswer {
     Written(usize),
     NoSpace,
@@ -22,14 +24,14 @@ pub enum PrintAnswer {
 }
 
 // What a page leaves of a recording: the bits that its frames took, and the state after them.
-#[derive(Drop)]
+#[derive(Clone, Copy)]
 struct Rest {
     used: usize,
     due: Due,
 }
 
 // The number of entries of a recording, or its refusal.
-#[derive(Drop)]
+#[derive(Clone, Copy)]
 enum Count {
     Entries(usize),
     Halted(Refusal),

@@ -1,4 +1,6 @@
 // The columns of a page's lines, each with the blank or the line feed after it.
+#![tactic(auto)]
+
 ghost use Rattle.std.specs.Prelude.{◌≡◌, [], ◌∷◌, ◌++◌, ◌+◌, ◌%◌, ◌≤◌, ◌<◌, eqb, length};
 ghost use Rattle.bits.specs.Bits.{pick};
 ghost use Rattle.messages.specs.Bytes.{big_endian};

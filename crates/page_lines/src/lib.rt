@@ -1,4 +1,6 @@
 // The lines of a page: its head, the line of an entry and a blank line, each with its line feed.
+#![tactic(auto)]
+
 ghost use Rattle.std.specs.Prelude.{◌≡◌, ◌++◌, ◌≤◌, length, replicate, drop};
 ghost use Rattle.format.specs.Entry.{entry_size};
 ghost use Rattle.page_rules.specs.Page.{blanks, aligned, line, feed};
@@ -37,9 +39,9 @@ pub fn put_head(number: u32, out: &mut [u8])
     let margin = [BLANK; 31];
     let column = page_columns::number_column(number);
     let dashes = line_of(DASH);
-    bytes::copy(&margin, out);
-    bytes::copy(&column, &mut out[31..]);
-    bytes::copy(&dashes, &mut out[LINE_SIZE..]);
+    spans::copy(&margin, out);
+    spans::copy(&column, &mut out[31..]);
+    spans::copy(&dashes, &mut out[LINE_SIZE..]);
 }
 
 // Writes the line of an entry of 18 bytes to the front of out.
@@ -52,10 +54,10 @@ pub fn put_line(entry: &[u8], out: &mut [u8])
     let moment = page_columns::moment_columns(Date::at_minute(minute));
     let length = page_columns::length_column(page_columns::wide(entry[4]));
     let last = page_columns::last_columns(entry);
-    bytes::copy(&first, out);
-    bytes::copy(&moment, &mut out[9..]);
-    bytes::copy(&length, &mut out[26..]);
-    bytes::copy(&last, &mut out[29..]);
+    spans::copy(&first, out);
+    spans::copy(&moment, &mut out[9..]);
+    spans::copy(&length, &mut out[26..]);
+    spans::copy(&last, &mut out[29..]);
 }
 
 // Writes a blank line to the front of out.
@@ -63,5 +65,5 @@ pub fn put_blank(out: &mut [u8])
     requires { 42 ≤ length out.old }
     ensures { out.new ≡ feed (blanks 41) ++ drop 42 out.old }
 {
-    bytes::copy(&line_of(BLANK), out);
+    spans::copy(&line_of(BLANK), out);
 }

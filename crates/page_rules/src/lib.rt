@@ -1,1 +1,2 @@
 // Pages of the shift book: the definitions of their text and of printing a recording, and the theorems; no code.
+#![tactic(auto)]

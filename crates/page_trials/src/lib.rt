@@ -1,4 +1,6 @@
 // What `vectors` tries of pages: recordings printed.
+#![tactic(auto)]
+
 use page::{PAGE_SIZE, PrintAnswer};
 use page_lines::LINE_SIZE;
 use trials::{sending, show};

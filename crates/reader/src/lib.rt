@@ -1,4 +1,6 @@
 // The next frame in the reader's state: alone, of a recording, or after others.
+#![tactic(auto)]
+
 ghost use Rattle.std.specs.Prelude.{◌≡◌};
 ghost use Rattle.format.specs.Next.{read_next};
 ghost use Rattle.frame.specs.Answer.{frame_numbers};

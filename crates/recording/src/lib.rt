@@ -1,4 +1,6 @@
 // Recordings written: many frames, one after the other.
+#![tactic(auto)]
+
 ghost use Rattle.std.specs.Prelude.{◌≡◌, true, ◌++◌, ◌+◌, ◌-◌, ◌/◌, ◌^◌, ◌≤◌, ◌<◌, length, drop, replicate};
 ghost use Rattle.calendar.specs.Calendar.{minute_count};
 ghost use Rattle.plan.specs.Plan.{length_at};
@@ -16,7 +18,7 @@ use calendar::Date;
 use plan::{Plan, USUAL_FRAME};
 
 // The question of writing that was answered no, numbers 1 to 4.
-#[derive(Drop)]
+#[derive(Clone, Copy)]
 pub enum WriteRefusal {
     IllegalPlan,
     Count,
@@ -25,7 +27,7 @@ pub enum WriteRefusal {
 }
 
 // The number of bits, or the refusal.
-#[derive(Drop)]
+#[derive(Clone, Copy)]
 pub enum WriteAnswer {
     Written(usize),
     Refused(WriteRefusal),

@@ -1,4 +1,6 @@
 // Prints the pages of the recording whose digits are on standard input.
+#![tactic(auto)]
+
 ghost use Rattle.io.specs.Counts.{IsPrefixLen};
 
 use book::{BOOK_SPACE, INPUT_SPACE};

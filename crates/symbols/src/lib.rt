@@ -1,1 +1,2 @@
 // Rows of symbols: definitions and laws, no code.
+#![tactic(auto)]

@@ -104,7 +104,7 @@ pub fn resumed(letter: u8, text: &[u8], digits: &[u8], n: usize) {
 }
 
 // A reading in pieces: the entries and the bits so far, the refusal or 0 of the last piece, and the state after it.
-#[derive(Drop)]
+#[derive(Clone, Copy)]
 struct Run {
     entries: usize,
     used: usize,

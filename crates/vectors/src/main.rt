@@ -1,6 +1,8 @@
 // Outside vectors, tried on the real code. A line of standard input is a case:
 // a letter that says what is tried, numbers that are not printed, a space, a text, a `#`, and bytes to be read.
 // The text is printed, and after it what the code gives.
+#![tactic(auto)]
+
 mod calls;
 mod listings;
 
@@ -18,8 +20,8 @@ const HASH: u8 = b'#';
 
 // Tries one case: the first n bytes of the input that is left. False where the end of its line could not be written.
 fn case(rest: &[u8], n: usize) -> bool {
-    let space = bytes::scan::find(rest, 0, rest.len(), SPACE);
-    let hash = bytes::scan::find(rest, 0, rest.len(), HASH);
+    let space = spans::find(rest, 0, rest.len(), SPACE);
+    let hash = spans::find(rest, 0, rest.len(), HASH);
     if space < hash {
         if hash < rest.len() {
             if hash < n {
@@ -36,7 +38,7 @@ fn case(rest: &[u8], n: usize) -> bool {
 fn cases(input: &[u8]) -> bool {
     let mut at: usize = 0;
     while at < input.len() {
-        let end = bytes::scan::find(input, at, input.len(), LINE_FEED);
+        let end = spans::find(input, at, input.len(), LINE_FEED);
         let written = case(&input[at..], end - at);
         if !written {
             return false;

@@ -16,7 +16,7 @@ use plan::Plan;
 
 // The refusal or 0, the date, UT1, leap warning, daylight state and length; refused, every other field is 0.
 #[repr(C)]
-#[derive(Drop)]
+#[derive(Clone, Copy)]
 pub struct AmplitudeReply {
     pub refusal: u32,
     pub year: u32,

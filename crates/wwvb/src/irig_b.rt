@@ -11,7 +11,7 @@ use plan::Plan;
 
 // The refusal or 0, and the number of elements; refused, that number is 0.
 #[repr(C)]
-#[derive(Drop)]
+#[derive(Clone, Copy)]
 pub struct IrigWriteReply {
     pub refusal: usize,
     pub elements: usize,
@@ -19,7 +19,7 @@ pub struct IrigWriteReply {
 
 // The refusal or 0, the day of the year and the second of the day; refused, both are 0.
 #[repr(C)]
-#[derive(Drop)]
+#[derive(Clone, Copy)]
 pub struct IrigReply {
     pub refusal: u32,
     pub day_of_year: u32,

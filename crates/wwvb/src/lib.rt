@@ -1,4 +1,6 @@
 // The calls for programs in C: numbers, byte slices, and replies that are structs of numbers of one width.
+#![tactic(auto)]
+
 pub mod amplitude;
 pub mod irig_b;
 pub mod pages;
@@ -21,7 +23,7 @@ use recording::WriteAnswer;
 
 // The refusal or 0, and the date; refused, every other field is 0.
 #[repr(C)]
-#[derive(Drop)]
+#[derive(Clone, Copy)]
 pub struct DateReply {
     pub refusal: u32,
     pub year: u32,
@@ -34,7 +36,7 @@ pub struct DateReply {
 
 // The refusal or 0, and the minute; refused, the minute is 0.
 #[repr(C)]
-#[derive(Drop)]
+#[derive(Clone, Copy)]
 pub struct MinuteReply {
     pub refusal: u32,
     pub minute: u32,
@@ -42,7 +44,7 @@ pub struct MinuteReply {
 
 // The refusal or 0, and the number of bits or of symbols; refused, that number is 0.
 #[repr(C)]
-#[derive(Drop)]
+#[derive(Clone, Copy)]
 pub struct WriteReply {
     pub refusal: usize,
     pub bits: usize,
@@ -50,7 +52,7 @@ pub struct WriteReply {
 
 // The entries, the bits that they took, and the refusal or 0.
 #[repr(C)]
-#[derive(Drop)]
+#[derive(Clone, Copy)]
 pub struct ReadReply {
     pub entries: usize,
     pub used: usize,

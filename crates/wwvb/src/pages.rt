@@ -7,7 +7,7 @@ use page::PrintAnswer;
 
 // The refusal or 0, and the number of bytes written; refused, that number is 0.
 #[repr(C)]
-#[derive(Drop)]
+#[derive(Clone, Copy)]
 pub struct PrintReply {
     pub refusal: usize,
     pub bytes: usize,
