@@ -1,0 +1,10 @@
+-- `amplitude_row::put_lines` meets its contract.
+-- Assumes nothing.
+use Rattle.amplitude_row.proofs.Putting.{lines-put}
+use borrow.Author.Rules.{rules}
+use Rattle.amplitude_row.proofs.put_lines.Goals as goal
+
+pub returns : goal.returns
+returns c =
+    lines-put c.args.out.now c.args.l _ _ _ _ _ _ c.put_line.ensures c.put_line-2.ensures c.put_line-3.ensures
+    c.put_line-4.ensures c.put_line-5.ensures c.put_line-6.ensures

@@ -1,0 +1,19 @@
+-- `bits::spread_rest` meets its contract. The loop's invariant: from place i on stand the low bits of the word and the rest of the slice, and rest is what is above them.
+-- Assumes nothing.
+use Prim.Native.Nat.{suc, ◌-◌, ◌/◌, ◌%◌, ◌^◌, ◌≤◌}
+use mathlib.Core.List.{◌++◌}
+use mathlib.Core.Path.{◌≡◌, refl, sym, ◌∙◌}
+use native.Mathlib.Nat.{div-one, sub_self, sub-zero}
+use native.Mathlib.Omega.{arith}
+use lib.ListN.{length, drop, length-set}
+use Rattle.bits.specs.Bits.{bit, bits}
+use Rattle.bits.proofs.Slices.{drop-set}
+use Rattle.bits.proofs.Bits.{half-shr}
+use Rattle.bits.proofs.spread_rest.Given as goal
+
+abbrev pub invariant-loop-i : goal.invariant-loop-i
+invariant-loop-i l =
+    (l.i ≤ l.n) × (l.n ≤ length l.initial.out) × (length l.out ≡ length l.initial.out) × (l.rest ≡ l.word / 2 ^ (l.n - l.i)) × (drop l.i l.out ≡ bits (l.n - l.i) l.word ++ drop l.n l.initial.out)
+
+abbrev pub decreases-loop-i : goal.decreases-loop-i
+decreases-loop-i l = l.i

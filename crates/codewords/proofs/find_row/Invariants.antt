@@ -1,0 +1,21 @@
+-- `codewords::find_row` meets its contract.
+-- Assumes nothing.
+use Prim.Native.Nat.{ℕ, ◌-◌, ◌≤◌}
+use mathlib.Core.Path.{◌≡◌, refl, sym, ◌∙◌}
+use mathlib.Core.Bool.{Bool}
+use native.Mathlib.Omega.{arith}
+use lib.Dec.{eqb}
+use lib.ListN.{get_or}
+use borrow.Author.Tests.{eq-eqb, ne_eqb}
+use Rattle.bits.specs.Bits.{first}
+use Rattle.codewords.specs.CodeWords.{next_words, row_among}
+use Rattle.codewords.proofs.RowList.{row-place}
+use Rattle.codewords.proofs.Search.{search-here, search-on, search-end}
+use Rattle.codewords.proofs.find_row.Given as goal
+
+abbrev pub invariant-loop-row : goal.invariant-loop-row
+invariant-loop-row l =
+    (1 ≤ l.row) × (l.row ≤ l.end) × (first (is l.word) l.row (l.end - l.row) ≡ row_among l.from l.end l.word)
+
+abbrev pub decreases-loop-row : goal.decreases-loop-row
+decreases-loop-row l = l.end - l.row

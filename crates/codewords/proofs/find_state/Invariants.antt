@@ -1,0 +1,19 @@
+-- `codewords::find_state` meets its contract.
+-- Assumes nothing.
+use Prim.Native.Nat.{ℕ, ◌-◌, ◌≤◌}
+use mathlib.Core.Path.{◌≡◌, refl, sym, ◌∙◌}
+use mathlib.Core.Bool.{Bool}
+use native.Mathlib.Omega.{arith}
+use lib.Dec.{eqb}
+use lib.ListN.{get_or}
+use borrow.Author.Tests.{eq-eqb, ne_eqb}
+use Rattle.bits.specs.Bits.{first}
+use Rattle.codewords.specs.CodeWords.{illegal, state_words, state_of}
+use Rattle.codewords.proofs.Search.{search-here, search-on, search-end}
+use Rattle.codewords.proofs.find_state.Given as goal
+
+abbrev pub invariant-loop-number : goal.invariant-loop-number
+invariant-loop-number l = (l.number ≤ illegal) × (first (is l.word) l.number (illegal - l.number) ≡ state_of l.word)
+
+abbrev pub decreases-loop-number : goal.decreases-loop-number
+decreases-loop-number l = illegal - l.number

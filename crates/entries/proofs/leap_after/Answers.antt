@@ -1,0 +1,11 @@
+-- `entries::leap_after` meets its contract.
+-- Assumes nothing.
+use mathlib.Core.Path.{sym, ◌∙◌}
+use borrow.Author.Rules.{rules}
+use Rattle.entries.proofs.leap_after.Goals as goal
+
+pub returns-then-is_last_of_month : goal.returns-then-is_last_of_month
+returns-then-is_last_of_month c = rw (sym c.is_last_of_month.ensures ∙ c.if-is_last_of_month.true)
+
+pub returns : goal.returns
+returns c = rw (sym c.is_last_of_month.ensures ∙ c.if-is_last_of_month.false)

@@ -1,0 +1,10 @@
+-- `entries::put_message` meets its contract.
+-- Assumes nothing.
+use Rattle.format.specs.Entry.{entry_bytes}
+use Rattle.format.specs.Message.{message_entry}
+use borrow.Author.Rules.{rules}
+use Rattle.entries.proofs.put_message.Goals as goal
+
+pub returns : goal.returns
+unfolding entry_bytes message_entry
+returns c = c.copy.ensures.1

@@ -1,0 +1,32 @@
+-- `frame::put_word` meets its contract.
+-- Assumes nothing.
+use Prim.Native.Nat.{ℕ, ◌-◌, ◌*◌, ◌%◌, ◌^◌}
+use mathlib.Core.List.{List, ◌++◌}
+use mathlib.Core.Path.{◌≡◌, sym, ap, ◌∙◌}
+use lib.ListN.{length, take, drop}
+use lib.Seq.{length-take-le}
+use Rattle.bits.specs.Bits.{bits}
+use Rattle.format.specs.Frame.{min_frame}
+use Rattle.format.proofs.Sending.{word-bits}
+use borrow.Author.Rules.{rules}
+use Rattle.frame.proofs.put_word.Goals as goal
+use Rattle.frame.proofs.put_word.Goals.{Start}
+
+module _ (a : Start) where
+  abbrev n : ℕ
+  n = a.args.seconds
+
+  abbrev out : List ℕ
+  out = a.args.out.now
+
+  part_length : length (take n out) ≡ n
+  part_length = length-take-le n out a.pre.3
+
+pub slice_bounds-spread-end-2 : goal.slice_bounds-spread-end-2
+slice_bounds-spread-end-2 c = sym (part_length (goal.at.slice_bounds-spread-end-2 c).Start)
+
+pub returns : goal.returns
+returns c =
+    let w = c.args.word in
+    ap (λ (l : List ℕ). l ++ drop (n (goal.at.returns c).Start) (out (goal.at.returns c).Start))
+    (c.spread.ensures ∙ ap (λ (k : ℕ). bits k ((w * 2 ^ (n (goal.at.returns c).Start - min_frame)) % 2 ^ 64)) (part_length (goal.at.returns c).Start) ∙ word-bits w (n (goal.at.returns c).Start) c.requires.0 c.requires.1 c.requires.2)

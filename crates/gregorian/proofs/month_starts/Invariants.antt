@@ -1,0 +1,23 @@
+-- `gregorian::month_starts` meets its contract: each start is the sum of the months passed, which have at most 366 days.
+-- Assumes nothing.
+use Prim.Native.Nat.{ℕ, ◌+◌, ◌≤◌, ◌-◌}
+use mathlib.Core.Path.{◌≡◌, refl, sym, ◌∙◌}
+use native.Mathlib.Numerals.{add-one}
+use native.Mathlib.Omega.{arith}
+use borrow.Author.Rules.{rules}
+use lib.ListN.{length, get_or, length-set}
+use Rattle.gregorian.specs.Gregorian.{first_year, before, months_of}
+use Rattle.gregorian.proofs.Walk.{before-suc, filled}
+use Rattle.gregorian.proofs.Months.{length-months, months-short}
+use Rattle.gregorian.proofs.month_starts.Given as goal
+
+abbrev pub invariant-loop-i : goal.invariant-loop-i
+invariant-loop-i l =
+    (l.i ≤ 12)
+    × (length l.starts ≡ 13)
+    × (l.lengths ≡ months_of (first_year + l.years))
+    × (l.sum ≡ before (months_of (first_year + l.years)) l.i)
+    × ((k : ℕ) → k ≤ l.i → get_or l.starts k 0 ≡ before (months_of (first_year + l.years)) k)
+
+abbrev pub decreases-loop-i : goal.decreases-loop-i
+decreases-loop-i l = 12 - l.i

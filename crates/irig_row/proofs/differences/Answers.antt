@@ -1,0 +1,23 @@
+use Prim.Native.Nat.{◌+◌, ◌-◌, ◌≤◌}
+use mathlib.Core.Logic.{⊎_elim}
+use mathlib.Core.Path.{◌≡◌}
+use native.Mathlib.Omega.{arith}
+use lib.ListN.{drop}
+use Rattle.bits.specs.Bits.{distance}
+use Rattle.irig_rules.specs.Irig.{element_count}
+use Rattle.irig_row.proofs.Differing.{same_place, other_place, no_place}
+use Rattle.irig_row.proofs.differences.Goals as goal
+
+pub loop-i-preserved : goal.loop-i-preserved
+loop-i-preserved c =
+    let l = c.loop-i in
+    let a = c.args.a.now in
+    let b = c.args.b.now in
+    ⊎_elim (λ x. (omega arith, omega (arith, x.1), omega (arith, x.1, other_place a b l.i (omega arith) (omega arith) x.0.taken)))
+    (λ x. (omega arith, omega (arith, x.1), omega (arith, x.1, same_place a b l.i (omega arith) (omega arith) x.0.left))) c.if-a-i.branch
+
+pub returns : goal.returns
+returns c =
+    let l = c.loop-i in
+    let e : l.i ≡ element_count = omega arith in
+    omega (arith, l.invariant.2, no_place c.args.a.now c.args.b.now l.i (omega arith) (omega arith))

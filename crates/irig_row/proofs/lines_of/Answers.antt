@@ -1,0 +1,32 @@
+-- `irig_row::lines_of` meets its contract.
+-- Assumes nothing.
+use native.Mathlib.Omega.{arith}
+use Rattle.irig_rules.proofs.Facts.{Real, real, second-high}
+use Rattle.irig_row.specs.Row.{lines_of}
+use borrow.Author.Rules.{rules}
+use Rattle.irig_row.proofs.lines_of.Goals as goal
+use Rattle.irig_row.proofs.lines_of.Goals.{Start}
+
+facts : (s : Start) → Real s.args.c
+facts s = real s.args.c s.requires
+
+pub digits_line-requires : goal.digits_line-requires
+digits_line-requires c =
+    omega (arith, facts (goal.at.digits_line-requires c).Start, second-high c.args.c (facts (goal.at.digits_line-requires c).Start))
+
+pub digits_line-requires-2 : goal.digits_line-requires-2
+digits_line-requires-2 c = omega (arith, facts (goal.at.digits_line-requires-2 c).Start)
+
+pub digits_line-requires-3 : goal.digits_line-requires-3
+digits_line-requires-3 c = omega (arith, facts (goal.at.digits_line-requires-3 c).Start)
+
+pub returns : goal.returns
+unfolding lines_of
+returns c =
+    rw (
+      c.second_of_day-straight.ensures,
+      c.digits_line.ensures.0,
+      c.digits_line-2.ensures.0,
+      c.digits_line-3.ensures.0,
+      c.digits_line-4.ensures.0,
+    )

@@ -1,0 +1,24 @@
+use Prim.Native.Nat.{◌-◌, ◌≤◌}
+use mathlib.Core.Logic.{⊎_elim}
+use mathlib.Core.Path.{◌≡◌, refl}
+use native.Mathlib.Numerals.{add-one}
+use native.Mathlib.Omega.{arith}
+use lib.ListN.{length, drop}
+use Rattle.line.specs.Line.{behind_spaces}
+use Rattle.line.proofs.Parts.{skip-space, skip-rest}
+use Rattle.line.proofs.part_start.Goals as goal
+
+pub loop-i-preserved : goal.loop-i-preserved
+loop-i-preserved c =
+    let l = c.loop-i in
+    let s = c.args.line.now in
+    let f = c.find-space in
+    ⊎_elim
+    (λ w. (omega arith, omega arith, rw (w.1, add-one l.i) (skip-space s l.at l.i f.result l.invariant.2 f.ensures.0)))
+    (λ w. (omega arith, omega arith, rw (w.1, add-one l.i) (skip-rest s l.at l.i f.result l.invariant.2 f.ensures.0 w.0.left)))
+    c.if-space-line.branch
+
+pub returns : goal.returns
+returns c =
+    let e : c.loop-i.i ≡ c.args.k = omega arith in
+    (c.loop-i.invariant.1, rw (← e) c.loop-i.invariant.2)

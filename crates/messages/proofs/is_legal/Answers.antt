@@ -1,0 +1,69 @@
+use Prim.Native.Nat.{ℕ, suc, ◌-◌, ◌/◌, ◌≤◌, ◌<◌}
+use mathlib.Core.List.{List, ◌∷◌}
+use mathlib.Core.Path.{◌≡◌, refl, sym, ap, ◌∙◌}
+use native.Mathlib.Omega.{arith}
+use native.Mathlib.Numerals.{add-one}
+use lib.ListN.{length}
+use Rattle.messages.specs.Message.{Message, payload_limit, rising, legal_messages}
+use Rattle.messages.specs.Bytes.{message_size, message_at, messages_in}
+use Rattle.messages.specs.Walk.{all_from}
+use Rattle.messages.proofs.Laws.{none_from, some-from, no_bytes, not-whole, all_are, many, few}
+use Rattle.messages.proofs.Minutes.{end, none-rise, early, past, large, next}
+use Rattle.messages.proofs.is_legal.Goals as goal
+use Rattle.messages.proofs.is_legal.Goals.{At-loop-k, In-loop-k}
+
+module _ (c : In-loop-k) where
+  abbrev a : At-loop-k
+  a = c
+
+  abbrev s : List ℕ
+  s = a.before.before.before.before.before.args.bytes.now
+
+  abbrev m : Message
+  m = message_at s a.loop.k
+
+  abbrev rest : List Message
+  rest = all_from s (suc a.loop.k)
+
+  is : rising a.loop.from (m ∷ rest) ≡ legal_messages (messages_in s)
+  is = ap (rising a.loop.from) (sym (some-from s a.loop.k (omega arith))) ∙ a.loop.inv.2
+
+pub returns-then-bytes-eq0 : goal.returns-then-bytes-eq0
+returns-then-bytes-eq0 c = sym (no_bytes c.args.bytes.now (omega arith))
+
+pub returns-then-bytes-ne0 : goal.returns-then-bytes-ne0
+returns-then-bytes-ne0 c = sym (not-whole c.args.bytes.now (λ e. c.if-bytes-ne0.true (omega arith)))
+
+pub returns-then-count-gt-LIMIT : goal.returns-then-count-gt-LIMIT
+returns-then-count-gt-LIMIT c = sym (many c.args.bytes.now c.if-bytes-ne0.false (omega arith))
+
+pub loop-k-init : goal.loop-k-init
+loop-k-init c =
+    let z = c.args.bytes.now in
+    let w = c.if-bytes-ne0.false in
+    (omega arith, refl, ap (rising 0) (sym (all_are z w)) ∙ sym (few z w (omega arith)))
+
+pub returns-then-minute-from : goal.returns-then-minute-from
+returns-then-minute-from c =
+    sym (early (a (goal.at.returns-then-minute-from c).In-loop-k).loop.from (m (goal.at.returns-then-minute-from c).In-loop-k) (rest (goal.at.returns-then-minute-from c).In-loop-k) (omega (arith, c.minute_at-minute.ensures))) ∙ is (goal.at.returns-then-minute-from c).In-loop-k
+
+pub returns-then-minute-ge-MINUTES : goal.returns-then-minute-ge-MINUTES
+returns-then-minute-ge-MINUTES c =
+    sym (past (a (goal.at.returns-then-minute-ge-MINUTES c).In-loop-k).loop.from (m (goal.at.returns-then-minute-ge-MINUTES c).In-loop-k) (rest (goal.at.returns-then-minute-ge-MINUTES c).In-loop-k) (omega (arith, c.minute_at-minute.ensures))) ∙ is (goal.at.returns-then-minute-ge-MINUTES c).In-loop-k
+
+pub returns-then-payload_at-ge-DATA_END : goal.returns-then-payload_at-ge-DATA_END
+returns-then-payload_at-ge-DATA_END c =
+    sym (large (a (goal.at.returns-then-payload_at-ge-DATA_END c).In-loop-k).loop.from (m (goal.at.returns-then-payload_at-ge-DATA_END c).In-loop-k) (rest (goal.at.returns-then-payload_at-ge-DATA_END c).In-loop-k) (omega (arith, c.payload_at.ensures))) ∙ is (goal.at.returns-then-payload_at-ge-DATA_END c).In-loop-k
+
+pub loop-k-preserved : goal.loop-k-preserved
+loop-k-preserved c =
+    let x = c.minute_at-minute.ensures in
+    let low : (a (goal.at.loop-k-preserved c).In-loop-k).loop.from ≤ (m (goal.at.loop-k-preserved c).In-loop-k).minute = omega arith in
+    let high : (m (goal.at.loop-k-preserved c).In-loop-k).minute < end = omega arith in
+    let small : (m (goal.at.loop-k-preserved c).In-loop-k).payload < payload_limit = omega (arith, c.payload_at.ensures) in
+    (omega arith, refl, rw (x, add-one (a (goal.at.loop-k-preserved c).In-loop-k).loop.k) (sym (next (a (goal.at.loop-k-preserved c).In-loop-k).loop.from (m (goal.at.loop-k-preserved c).In-loop-k) (rest (goal.at.loop-k-preserved c).In-loop-k) low high small) ∙ is (goal.at.loop-k-preserved c).In-loop-k))
+
+pub returns : goal.returns
+returns c =
+    let e = none_from c.args.bytes.now c.loop-k.k (omega arith) in
+    sym (none-rise c.loop-k.from) ∙ ap (rising c.loop-k.from) (sym e) ∙ c.loop-k.invariant.2

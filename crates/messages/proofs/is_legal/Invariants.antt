@@ -1,0 +1,21 @@
+-- `messages::is_legal` meets its contract. The loop's invariant: the messages from message k on rise from the minute `from` on exactly if all are legal.
+-- Assumes nothing.
+use Prim.Native.Nat.{ℕ, suc, ◌-◌, ◌/◌, ◌≤◌, ◌<◌}
+use mathlib.Core.List.{List, ◌∷◌}
+use mathlib.Core.Path.{◌≡◌, refl, sym, ap, ◌∙◌}
+use native.Mathlib.Omega.{arith}
+use native.Mathlib.Numerals.{add-one}
+use lib.ListN.{length}
+use Rattle.messages.specs.Message.{Message, payload_limit, rising, legal_messages}
+use Rattle.messages.specs.Bytes.{message_size, message_at, messages_in}
+use Rattle.messages.specs.Walk.{all_from}
+use Rattle.messages.proofs.Laws.{none_from, some-from, no_bytes, not-whole, all_are, many, few}
+use Rattle.messages.proofs.Minutes.{end, none-rise, early, past, large, next}
+use Rattle.messages.proofs.is_legal.Given as goal
+
+abbrev pub invariant-loop-k : goal.invariant-loop-k
+invariant-loop-k l =
+    (l.k ≤ l.count) × (l.count ≡ length l.bytes / message_size) × (rising l.from (all_from l.bytes l.k) ≡ legal_messages (messages_in l.bytes))
+
+abbrev pub decreases-loop-k : goal.decreases-loop-k
+decreases-loop-k l = l.count - l.k

@@ -1,0 +1,150 @@
+use Prim.Native.Nat.{ℕ, ◌+◌, ◌-◌, ◌*◌, ◌^◌, ◌≤◌, ◌<◌}
+use mathlib.Core.List.{List, ◌++◌, map}
+use mathlib.Core.Path.{◌≡◌, refl, sym, ap, subst, ◌∙◌}
+use native.Mathlib.Omega.{arith}
+use lib.ListN.{length, take, drop, length-drop, drop_of_length-le}
+use lib.Seq.{drop-drop}
+use Rattle.sequence.proofs.Tails.{tail}
+use Rattle.sequence.proofs.Putting.{Put, put-length}
+use Rattle.page_rules.specs.Page.{line, page, pages_from, page_count}
+use Rattle.page_rules.specs.Printing.{read_on, entries_of}
+use Rattle.page.specs.Rest.{page_entries, rest_after}
+use Rattle.page.proofs.Pages.{RestAfter, rest-after, Printing, printing-none, printed-all, page-within, printing-next, put-next-page, next-room, number_small}
+use Rattle.page.proofs.put_pages.Goals as goal
+use Rattle.page.proofs.put_pages.Goals.{After-struct_known-1, At-loop-used}
+
+-- at the loop's test
+module _ (a : At-loop-used) where
+  abbrev bits : List ℕ
+  bits = a.before.before.before.args.bits.now
+
+  abbrev buffer : List ℕ
+  buffer = a.before.before.before.args.out.now
+
+  abbrev rest : List ℕ
+  rest = drop a.loop.used bits
+
+  abbrev done : ℕ
+  done = a.loop.number - 1
+
+  abbrev so_far : Printing done a.loop.due rest (entries_of bits)
+  so_far = a.loop.inv.3
+
+  abbrev put : Put (pages_from done 1 (map line (entries_of bits))) buffer a.loop.out a.loop.at
+  put = a.loop.inv.4
+
+  within : a.loop.at ≤ length a.loop.out
+  within = omega (arith, put.room, put-length put)
+
+  module _ (left : a.loop.used < length bits) where
+    some : 0 < length rest
+    some = omega (arith, length-drop a.loop.used bits)
+
+    next-within : done + 1 ≤ page_count (length (entries_of bits))
+    next-within = page-within done a.loop.due rest (entries_of bits) so_far some
+
+    room : 2184 ≤ length (take (length a.loop.out - a.loop.at) (drop a.loop.at a.loop.out))
+    room = next-room done a.loop.at bits buffer a.loop.out a.before.before.before.pre.1 next-within a.loop.inv.2 put
+
+    small : a.loop.number < 2 ^ 31
+    small = omega (arith, number_small (done + 1) bits next-within, a.loop.inv.1)
+
+-- after a page was put
+module _ (c : After-struct_known-1) where
+  abbrev at : At-loop-used
+  at = c
+
+  left : at.loop.used < length (bits at)
+  left = omega arith
+
+  after : RestAfter 50 at.loop.due (rest at) c.put_page-rest.result
+  after =
+      subst (RestAfter 50 at.loop.due (rest at))
+      (sym (c.put_page-rest.ensures.0 ∙ ap (rest_after at.loop.due) (tail (bits at) at.loop.used)))
+      (rest-after at.loop.due (rest at) (so_far at).going.accepted)
+
+  page-is : c.put_page-rest.new.out
+      ≡ page at.loop.number (map line (page_entries at.loop.due (rest at)))
+      ++ drop 2184 (take (length at.loop.out - at.loop.at) (drop at.loop.at at.loop.out))
+  page-is =
+      c.put_page-rest.ensures.1
+      ∙ ap (λ (f : List ℕ). page at.loop.number (map line (page_entries at.loop.due f))
+      ++ drop 2184 (take (length at.loop.out - at.loop.at) (drop at.loop.at at.loop.out))) (tail (bits at) at.loop.used)
+
+  bits_left : (at.loop.used + c.put_page-rest.result.used ≤ length (bits at)) × (0 < c.put_page-rest.result.used)
+  bits_left = (omega (arith, after.within, length-drop at.loop.used (bits at), at.loop.inv.0), after.some (omega arith) (some at left))
+
+  next : done at + 1 ≡ at.loop.number + 1 - 1
+  next = omega (arith, at.loop.inv.1)
+
+  -- the buffer after it
+  abbrev out-after : List ℕ
+  out-after =
+      take at.loop.at at.loop.out
+      ++ (c.put_page-rest.new.out ++ drop (length at.loop.out - at.loop.at) (drop at.loop.at at.loop.out))
+
+  page-put : Put (pages_from (done at + 1) 1 (map line (entries_of (bits at)))) (buffer at) out-after (at.loop.at + 2184)
+  page-put =
+      put-next-page (done at) at.loop.due (rest at) (entries_of (bits at)) (so_far at) (some at left) at.loop.number at.loop.at (buffer at) at.loop.out _
+      (omega (arith, at.loop.inv.1)) (omega (arith, small at left)) (put at) (room at left) page-is
+
+  printed : Printing (done at + 1) c.put_page-rest.result.due
+      (drop (at.loop.used + c.put_page-rest.result.used) (bits at)) (entries_of (bits at))
+  printed =
+      printing-next (done at) at.loop.due (rest at) (entries_of (bits at)) (so_far at) (some at left) c.put_page-rest.result _ after
+      (sym (drop-drop c.put_page-rest.result.used at.loop.used (bits at)))
+
+pub loop-used-init : goal.loop-used-init
+unfolding pages_from
+loop-used-init c = (
+  omega arith,
+  omega arith,
+  refl,
+  printing-none c.args.bits.now c.requires.0,
+  record { size = refl; room = omega arith; is = refl },
+)
+
+pub slice_bounds-put_page-count-in-loop-used : goal.slice_bounds-put_page-count-in-loop-used
+slice_bounds-put_page-count-in-loop-used c =
+    within (goal.at.slice_bounds-put_page-count-in-loop-used c).At-loop-used
+
+pub slice_bounds-put_page-start-in-loop-used : goal.slice_bounds-put_page-start-in-loop-used
+slice_bounds-put_page-start-in-loop-used c =
+    within (goal.at.slice_bounds-put_page-start-in-loop-used c).At-loop-used
+
+pub put_page-rest-requires : goal.put_page-rest-requires
+put_page-rest-requires c =
+    (ap (λ (f : List ℕ). (read_on c.loop-used.due f).refusal) (tail (bits (goal.at.put_page-rest-requires c).At-loop-used) c.loop-used.used) ∙ (so_far (goal.at.put_page-rest-requires c).At-loop-used).going.accepted, room c (omega arith))
+
+pub overflow_add-used : goal.overflow_add-used
+overflow_add-used c =
+    omega (arith, (bits_left (goal.at.overflow_add-used c).After-struct_known-1).0)
+
+pub overflow_add-at : goal.overflow_add-at
+overflow_add-at c =
+    omega (arith, small (at (goal.at.overflow_add-at c).After-struct_known-1) (left (goal.at.overflow_add-at c).After-struct_known-1), (at (goal.at.overflow_add-at c).After-struct_known-1).loop.invariant.2)
+
+pub overflow_add-number : goal.overflow_add-number
+overflow_add-number c =
+    omega (arith, small (at (goal.at.overflow_add-number c).After-struct_known-1) (left (goal.at.overflow_add-number c).After-struct_known-1))
+
+pub loop-used-smaller : goal.loop-used-smaller
+loop-used-smaller c = omega (arith, bits_left (goal.at.loop-used-smaller c).After-struct_known-1)
+
+pub loop-used-preserved : goal.loop-used-preserved
+loop-used-preserved c = (
+  (bits_left (goal.at.loop-used-preserved c).After-struct_known-1).0,
+  omega arith,
+  omega (arith, (at (goal.at.loop-used-preserved c).After-struct_known-1).loop.invariant.2, (at (goal.at.loop-used-preserved c).After-struct_known-1).loop.invariant.1),
+  subst (λ (k : ℕ). Printing k c.put_page-rest.result.due
+      (drop ((at (goal.at.loop-used-preserved c).After-struct_known-1).loop.used + c.put_page-rest.result.used) (bits (at (goal.at.loop-used-preserved c).After-struct_known-1))) (entries_of (bits (at (goal.at.loop-used-preserved c).After-struct_known-1)))) (next (goal.at.loop-used-preserved c).After-struct_known-1) (printed (goal.at.loop-used-preserved c).After-struct_known-1),
+  subst (λ (k : ℕ). Put (pages_from k 1 (map line (entries_of (bits (at (goal.at.loop-used-preserved c).After-struct_known-1))))) (buffer (at (goal.at.loop-used-preserved c).After-struct_known-1)) (out-after (goal.at.loop-used-preserved c).After-struct_known-1) ((at (goal.at.loop-used-preserved c).After-struct_known-1).loop.at + 2184)) (next (goal.at.loop-used-preserved c).After-struct_known-1) (page-put (goal.at.loop-used-preserved c).After-struct_known-1),
+)
+
+pub shape_of-out : goal.shape_of-out
+shape_of-out c = put-length (put (goal.at.shape_of-out c).At-loop-used)
+
+pub returns : goal.returns
+returns c =
+    let e = printed-all (done (goal.at.returns c).At-loop-used) c.loop-used.due (rest (goal.at.returns c).At-loop-used) (entries_of (bits (goal.at.returns c).At-loop-used)) (drop_of_length-le (bits (goal.at.returns c).At-loop-used) {i = c.loop-used.used} c.loop-used-test.false) (so_far (goal.at.returns c).At-loop-used) in
+    (put (goal.at.returns c).At-loop-used).is ∙ rw (← e, (put (goal.at.returns c).At-loop-used).size)

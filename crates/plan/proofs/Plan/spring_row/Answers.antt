@@ -1,0 +1,21 @@
+-- `plan::Plan::spring_row` meets its contract.
+-- Assumes nothing.
+use borrow.Author.Rules.{rules}
+use native.Mathlib.Omega.{arith}
+use mathlib.Core.Path.{sym, ◌∙◌}
+use Rattle.plan.specs.Plan.{spring_row}
+use Rattle.plan.proofs.Laws.{earlier-in-range}
+use Rattle.plan.proofs.Plan.spring_row.Goals as goal
+
+pub april_row-requires : goal.april_row-requires
+april_row-requires c =
+    let a = c.args in
+    omega (arith, earlier-in-range a.self.kind a.years (sym c.is_earlier.ensures ∙ c.if-is_earlier.true))
+
+pub returns-then-is_earlier : goal.returns-then-is_earlier
+unfolding spring_row
+returns-then-is_earlier c = rw (← c.is_earlier.ensures, c.if-is_earlier.true, c.april_row.ensures)
+
+pub returns-else-is_earlier : goal.returns-else-is_earlier
+unfolding spring_row
+returns-else-is_earlier c = rw (← c.is_earlier.ensures, c.if-is_earlier.false)

@@ -1,0 +1,84 @@
+-- `recording::write_recording` meets its contract.
+-- Assumes nothing.
+use Prim.Native.Nat.{ℕ, ◌+◌, ◌≤◌}
+use mathlib.Core.Path.{◌≡◌, sym, ◌∙◌}
+use mathlib.Core.Bool.{true}
+use mathlib.Core.List.{List}
+use native.Mathlib.Omega.{arith}
+use borrow.Author.Tests.{not-true, not-false}
+use Rattle.calendar.specs.Calendar.{minute_count}
+use Rattle.messages.specs.Message.{Schedule, legal_schedule}
+use Rattle.messages.specs.Bytes.{schedule_of}
+use Rattle.sequence.specs.Writing.{max_count}
+use Rattle.sequence.proofs.Refusals.{no-1, few, many, no-3, no-4, yes-4}
+use borrow.Author.Rules.{rules}
+use Rattle.recording.proofs.write_recording.Goals as goal
+use Rattle.recording.proofs.write_recording.Goals.{Else-count-first, Else-not-is_legal, Start}
+
+-- what the call is given
+module _ (a : Start) where
+  abbrev q : Schedule
+  q = schedule_of a.args.plan a.args.messages.now
+
+  abbrev m : ℕ
+  m = a.args.first
+
+  abbrev n : ℕ
+  n = a.args.count
+
+  abbrev out : List ℕ
+  out = a.args.out.now
+
+abbrev start : Else-not-is_legal → Start
+start c = c
+
+-- after question 1
+legal : (c : Else-not-is_legal) → legal_schedule (q (start c)) ≡ true
+legal c = sym c.is_legal.ensures ∙ not-false _ c.if-not-is_legal.false
+
+-- after questions 2 and 3
+module _ (c : Else-count-first) where
+  abbrev e : Else-not-is_legal
+  e = c
+
+  low : 1 ≤ n (start e)
+  low = c.if-count-lt1.false
+
+  high : n (start e) ≤ max_count
+  high = c.if-count-gt-MAX_COUNT.false
+
+  fits : m (start e) + n (start e) ≤ minute_count
+  fits = omega arith
+
+pub returns-then-not-is_legal : goal.returns-then-not-is_legal
+returns-then-not-is_legal c =
+    no-1 (q (goal.at.returns-then-not-is_legal c).Start) (m (goal.at.returns-then-not-is_legal c).Start) (n (goal.at.returns-then-not-is_legal c).Start) (out (goal.at.returns-then-not-is_legal c).Start) (sym c.is_legal.ensures ∙ not-true _ c.if-not-is_legal.true)
+
+pub returns-then-count-lt1 : goal.returns-then-count-lt1
+returns-then-count-lt1 c =
+    let b = start c in few (q b) (m b) (n b) (out b) (legal (goal.at.returns-then-count-lt1 c).Else-not-is_legal) c.if-count-lt1.true
+
+pub returns-then-count-gt-MAX_COUNT : goal.returns-then-count-gt-MAX_COUNT
+returns-then-count-gt-MAX_COUNT c =
+    let b = start c in many (q b) (m b) (n b) (out b) (legal (goal.at.returns-then-count-gt-MAX_COUNT c).Else-not-is_legal) c.if-count-gt-MAX_COUNT.true
+
+pub returns-then-count-first : goal.returns-then-count-first
+returns-then-count-first c =
+    let b = start c in
+    no-3 (q b) (m b) (n b) (out b) (legal (goal.at.returns-then-count-first c).Else-not-is_legal) c.if-count-lt1.false c.if-count-gt-MAX_COUNT.false (omega arith)
+
+pub returns-then-out-needed : goal.returns-then-out-needed
+returns-then-out-needed c =
+    let b = start (e (goal.at.returns-then-out-needed c).Else-count-first) in
+    no-4 (q b) (m b) (n b) (out b) (legal (e (goal.at.returns-then-out-needed c).Else-count-first)) (low (goal.at.returns-then-out-needed c).Else-count-first) (high (goal.at.returns-then-out-needed c).Else-count-first) (fits (goal.at.returns-then-out-needed c).Else-count-first) (rw (← c.bits_needed-needed.ensures) c.if-out-needed.true)
+
+pub write_frames-requires : goal.write_frames-requires
+write_frames-requires c =
+    (legal (e (goal.at.write_frames-requires c).Else-count-first), low (goal.at.write_frames-requires c).Else-count-first, fits (goal.at.write_frames-requires c).Else-count-first, rw (← c.bits_needed-needed.ensures) c.if-out-needed.false)
+
+pub returns : goal.returns
+returns c =
+    let b = start (e (goal.at.returns c).Else-count-first) in
+    let y = c.bits_needed-needed in
+    yes-4 (q b) (m b) (n b) (out b) (legal (e (goal.at.returns c).Else-count-first)) (low (goal.at.returns c).Else-count-first) (high (goal.at.returns c).Else-count-first) (fits (goal.at.returns c).Else-count-first) y.result c.write_frames.new.out
+    (rw (← y.ensures) c.if-out-needed.false) y.ensures c.write_frames.ensures
