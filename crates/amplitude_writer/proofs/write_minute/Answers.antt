@@ -21,27 +21,28 @@ abbrev schedule : Start → Schedule
 schedule s = schedule_of s.args.plan s.args.messages.now
 
 abbrev start : Else-not-is_legal-2 → Start
-start c = c
+start c = c.before.before.before.before.before.before
 
 -- question 1, asked in two parts
 legal : (c : Else-not-is_legal-2) → legal_schedule (schedule (start c)) ≡ true
 legal c =
-    both-legal (schedule (start c)) (sym c.is_legal.ensures ∙ not-false _ c.if-not-is_legal.false)
+    let p = c.before.before in
+    both-legal (schedule (start c)) (sym p.is_legal.ensures ∙ not-false _ p.if-not-is_legal.false)
     (sym c.is_legal-2.ensures ∙ not-false _ c.if-not-is_legal-2.false)
 
 -- UT1, as it came in
-ut1 : (c : After-is_ut1) → let s = start c in
+ut1 : (c : After-is_ut1) → let s = start c.before.before in
     c.is_ut1.result ≡ legal_ut1 s.args.sign s.args.tenths
-ut1 c = let s = start c in
+ut1 c = let s = start c.before.before in
     subst (λ (z : ℤ). c.is_ut1.result ≡ legal_ut1 z s.args.tenths) (to_z-of_z s.fits.sign) c.is_ut1.ensures
 
-legal-ut1 : (c : Else-not-is_ut1) → let s = start c in
+legal-ut1 : (c : Else-not-is_ut1) → let s = start c.before.before.before in
     legal_ut1 s.args.sign s.args.tenths ≡ true
-legal-ut1 c = sym (ut1 c) ∙ not-false _ c.if-not-is_ut1.false
+legal-ut1 c = sym (ut1 c.before) ∙ not-false _ c.if-not-is_ut1.false
 
-values : (c : After-values_at-values) → let s = start c in
+values : (c : After-values_at-values) → let s = start c.before.before.before.before in
     c.values_at-values.result ≡ values_at s.args.plan s.args.minute s.args.sign s.args.tenths
-values c = let s = start c in
+values c = let s = start c.before.before.before.before in
     subst (λ (z : ℤ). c.values_at-values.result ≡ values_at s.args.plan s.args.minute z s.args.tenths) (to_z-of_z s.fits.sign) c.values_at-values.ensures
 
 pub returns-then-not-is_legal : goal.returns-then-not-is_legal

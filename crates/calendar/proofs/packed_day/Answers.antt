@@ -41,16 +41,16 @@ month_of_day-m-requires c =
     rest-in-year (day (goal.at.month_of_day-m-requires c).After-days_before) (place (goal.at.month_of_day-m-requires c).After-days_before) c.year_index-years.result (day (goal.at.month_of_day-m-requires c).After-days_before - c.days_before.result) c.year_index-years.ensures (rest (goal.at.month_of_day-m-requires c).After-days_before)
 
 module _ (c : After-month_of_day-m) where
-  months : c.month_of_day-m.result ≡ month_of_day (year_of_day (day c))
+  months : c.month_of_day-m.result ≡ month_of_day (year_of_day (day c.before))
   months =
-      let d = day c in
+      let d = day c.before in
       c.month_of_day-m.ensures
-      ∙ month-of-rest d (place c) c.year_index-years.result (d - c.days_before.result) c.year_index-years.ensures (rest c)
+      ∙ month-of-rest d (place c.before) c.year_index-years.result (d - c.days_before.result) c.year_index-years.ensures (rest c.before)
 
   small : (c.year_index-years.result < 100) × (c.month_of_day-m.result.index < 12) × (c.month_of_day-m.result.rest < 31)
   small =
-      let d = day c in
-      let p = place c in
+      let d = day c.before in
+      let p = place c.before in
       let index = ap (λ (m : Place). m.index) months in
       let left = ap (λ (m : Place). m.rest) months in
       (omega (arith, c.year_index-years.ensures, year-index d p), omega (arith, index, month-index d p), omega (arith, left, month-rest d p))

@@ -70,8 +70,8 @@ module _ (a : At-loop-used) where
     rw e at a.loop.inv.4,
   )
 
-some : (c : In-loop-used) → 0 < length (rest c)
-some c = omega (arith, length-drop c.loop-used.used (bits c))
+some : (c : In-loop-used) → 0 < length (rest c.before)
+some c = omega (arith, length-drop c.loop-used.used (bits c.before))
 
 -- after the step
 module _ (r : After-read_entry-step) where

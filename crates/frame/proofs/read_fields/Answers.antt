@@ -84,7 +84,7 @@ module _ (d : After-decode-time) where
 
 module _ (c : After-ends_right) where
   abbrev d' : After-decode-time
-  d' = c
+  d' = c.before.before.before
 
   q13 : c.ends_right.result ≡ question13 (one (r d')) (f (r d')) (e d')
   q13 = rw (← c.length_for-length.ensures) c.ends_right.ensures

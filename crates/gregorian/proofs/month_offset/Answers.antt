@@ -9,18 +9,18 @@ use Rattle.bits.specs.Bits.{pick}
 use Rattle.gregorian.specs.Gregorian.{first_year, leap_year}
 use Rattle.gregorian.proofs.Months.{first-months, later-months}
 use Rattle.gregorian.proofs.month_offset.Goals as goal
-use Rattle.gregorian.proofs.month_offset.Goals.{Joined-is_leap}
+use Rattle.gregorian.proofs.month_offset.Goals.{then-is_leap, else-is_leap, Joined-is_leap}
 
 -- the days that the year's February does not have
 missing : (c : Joined-is_leap) → c.if-is_leap.missing ≡ pick (leap_year (first_year + c.args.years)) 1 2
 missing c =
-    ⊎_elim
-    (λ w. w.1 ∙ sym (ap (λ b. pick b 1 2) (sym c.is_leap.ensures ∙ w.0.taken)))
-    (λ w. w.1 ∙ sym (ap (λ b. pick b 1 2) (sym c.is_leap.ensures ∙ w.0.left)))
-    c.if-is_leap.branch
+    elim c.if-is_leap.branch [
+      | then-is_leap w ↦ w.missing-is ∙ sym (ap (λ b. pick b 1 2) (sym c.is_leap.ensures ∙ w.if-is_leap.true))
+      | else-is_leap w ↦ w.missing-is ∙ sym (ap (λ b. pick b 1 2) (sym c.is_leap.ensures ∙ w.if-is_leap.false))
+    ]
 
 pub overflow_sub-result : goal.overflow_sub-result
-overflow_sub-result c = ⊎_elim (λ w. omega arith) (λ w. omega arith) c.if-is_leap.branch
+overflow_sub-result c = elim c.if-is_leap.branch [ then-is_leap w ↦ omega arith | else-is_leap w ↦ omega arith ]
 
 pub returns-then-month-lt2 : goal.returns-then-month-lt2
 returns-then-month-lt2 c =

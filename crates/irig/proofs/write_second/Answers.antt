@@ -20,16 +20,17 @@ abbrev schedule : Start → Schedule
 schedule s = schedule_of s.args.plan s.args.messages.now
 
 abbrev start : Else-not-is_legal-2 → Start
-start c = c
+start c = c.before.before.before.before.before.before
 
 -- question 1, asked in two parts
 legal : (c : Else-not-is_legal-2) → legal_schedule (schedule (start c)) ≡ true
 legal c =
-    both-legal (schedule (start c)) (sym c.is_legal.ensures ∙ not-false _ c.if-not-is_legal.false)
+    let p = c.before.before in
+    both-legal (schedule (start c)) (sym p.is_legal.ensures ∙ not-false _ p.if-not-is_legal.false)
     (sym c.is_legal-2.ensures ∙ not-false _ c.if-not-is_legal-2.false)
 
 -- question 21
-below : (c : Else-length-second) → let s = start c in
+below : (c : Else-length-second) → let s = start c.before.before.before in
     s.args.second < length_at s.args.plan s.args.minute
 below c = omega (arith, c.length-length.ensures, c.if-length-second.false)
 

@@ -30,7 +30,7 @@ behind c = subst (λ (z : ℤ). c.minutes_behind-behind.result ≡ pick (legal_o
 answer : (c : After-is_legal) → legal_setting c.args.state c.args.offset c.args.hour ≡ c.is_legal.result
 answer c =
     let a = c.args in
-    sym (setting a.state a.offset a.hour c.minutes_behind-behind.result (behind c)) ∙ sym c.is_legal.ensures
+    sym (setting a.state a.offset a.hour c.minutes_behind-behind.result (behind c.before)) ∙ sym c.is_legal.ensures
 
 pub returns-then-not-is_legal : goal.returns-then-not-is_legal
 unfolding local_of local_questions asked
@@ -39,12 +39,12 @@ returns-then-not-is_legal c =
 
 -- the setting that passed it, in the numbers that the calls are given
 accepted : (c : Else-not-is_legal) → legal_setting c.args.state c.args.offset c.args.hour ≡ true
-accepted c = answer c ∙ not-false _ c.if-not-is_legal.false
+accepted c = answer c.before ∙ not-false _ c.if-not-is_legal.false
 
 size : (c : Else-not-is_legal) → c.minutes_behind-behind.result ≡ nat_abs c.args.offset
 size c =
     let a = c.args in
-    behind-is a.offset c.minutes_behind-behind.result (behind c) (setting-parts a.state a.offset a.hour (accepted c)).1
+    behind-is a.offset c.minutes_behind-behind.result (behind c.before.before) (setting-parts a.state a.offset a.hour (accepted c)).1
 
 limits : (c : Else-not-is_legal) → (240 ≤ c.minutes_behind-behind.result) × (c.minutes_behind-behind.result ≤ 600)
 limits c =

@@ -13,7 +13,7 @@ use Rattle.messages.proofs.first_from.Goals.{At-loop-k, In-loop-k}
 
 module _ (c : In-loop-k) where
   abbrev a : At-loop-k
-  a = c
+  a = c.before
 
   abbrev s : List ℕ
   s = a.before.before.args.bytes.now

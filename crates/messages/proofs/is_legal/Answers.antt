@@ -14,7 +14,7 @@ use Rattle.messages.proofs.is_legal.Goals.{At-loop-k, In-loop-k}
 
 module _ (c : In-loop-k) where
   abbrev a : At-loop-k
-  a = c
+  a = c.before
 
   abbrev s : List ℕ
   s = a.before.before.before.before.before.args.bytes.now

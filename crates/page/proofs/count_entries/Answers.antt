@@ -43,7 +43,7 @@ module _ (r : After-read_from-part) where
 -- where the space is full
 module _ (c : After-struct_known-in-Refused-3-1) where
   abbrev rf : After-read_from-part
-  rf = c
+  rf = c.before.before.before.before.before.before.before.before
 
   full : (part (a rf).loop.due (rest (a rf))).refusal ≡ 5
   full =

@@ -52,7 +52,7 @@ module _ (a : At-loop-used) where
 -- after a page was put
 module _ (c : After-struct_known-1) where
   abbrev at : At-loop-used
-  at = c
+  at = c.before.before.before.before.before.before.before
 
   left : at.loop.used < length (bits at)
   left = omega arith

@@ -9,7 +9,7 @@ use Rattle.page_columns.proofs.moment_columns.Goals.{After-digit-12, After-digit
 -- after the year and after the date
 module _ (c : After-digit-12) where
   abbrev date : After-digit-8
-  date = c
+  date = c.before.before.before.before.before.before
 
   abbrev year : After-digit-4
   year = date.before.before.before.before.before.before

@@ -10,7 +10,7 @@ use Rattle.page_columns.proofs.time_columns.Goals.{After-digit-3, After-wide-ech
 module _ (c : After-digit-3) where
   -- after the bytes are read
   abbrev read : After-wide-echo
-  read = c
+  read = c.before.before.before.before.before.before.before.before
 
   abbrev start : Start
   start = read.before.before.before.before.before.before.before.before.before

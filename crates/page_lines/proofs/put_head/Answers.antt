@@ -16,7 +16,7 @@ use Rattle.page_lines.proofs.put_head.Goals.{After-copy, After-copy-2, After-lin
 -- after the first copy
 module _ (c : After-copy) where
   abbrev made : After-line_of-dashes
-  made = c
+  made = c.before.before.before
 
   abbrev start : Start
   start = made.before.before.before
@@ -33,7 +33,7 @@ module _ (c : After-copy) where
 -- after the second
 module _ (c : After-copy-2) where
   abbrev c₁ : After-copy
-  c₁ = c
+  c₁ = c.before.before.before.before.before
 
   abbrev text₂ : List ℕ
   text₂ = replicate 31 32 ++ (made c₁).before.number-column.result

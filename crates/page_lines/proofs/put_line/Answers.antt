@@ -42,7 +42,7 @@ module _ (k : After-last_columns-last) where
 -- after the first copy
 module _ (c : After-copy) where
   abbrev made₁ : After-last_columns-last
-  made₁ = c
+  made₁ = c.before.before.before
 
   abbrev out₀ : List ℕ
   out₀ = (start made₁).args.out.now
@@ -59,7 +59,7 @@ module _ (c : After-copy) where
 -- after the second
 module _ (c : After-copy-2) where
   abbrev c₁ : After-copy
-  c₁ = c
+  c₁ = c.before.before.before.before.before
 
   abbrev text₂ : List ℕ
   text₂ = text₁ c₁ ++ (m (made₁ c₁)).moment-columns.result
@@ -75,7 +75,7 @@ module _ (c : After-copy-2) where
 -- after the third
 module _ (c : After-copy-3) where
   abbrev c₂ : After-copy-2
-  c₂ = c
+  c₂ = c.before.before.before.before.before
 
   abbrev made₃ : After-last_columns-last
   made₃ = made₁ (c₁ c₂)
@@ -94,7 +94,7 @@ module _ (c : After-copy-3) where
 -- before the fourth
 module _ (c : After-copy-arg-4-1) where
   abbrev c₃ : After-copy-3
-  c₃ = c
+  c₃ = c.before.before.before.before
 
   last-size : length (made₃ c₃).last-columns.result ≡ 13
   last-size = search rules

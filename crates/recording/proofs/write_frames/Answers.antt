@@ -28,7 +28,7 @@ use Rattle.recording.proofs.write_frames.Goals.{After-slice_known-in-loop-i-1, I
 -- in a turn
 module _ (c : In-loop-i) where
   abbrev start : Start
-  start = c
+  start = c.before.before.before.before.before.before.before
 
   abbrev p : Plan
   p = start.args.plan
@@ -104,7 +104,7 @@ moved : {s : List ℕ} {m n k d k' d' : ℕ} → m ≡ n → k' ≡ k → d' ≡
 moved e f g x = rw (← e, f, g) x
 
 abbrev turn-of : After-slice_known-in-loop-i-1 → In-loop-i
-turn-of c = c
+turn-of c = c.before.before.before.before.before
 
 module _ (j : Joined-minute-due) where
   abbrev now : In-loop-i

@@ -30,7 +30,7 @@ module _ (a : Start) where
   out = a.args.out.now
 
 abbrev start : Else-not-is_legal → Start
-start c = c
+start c = c.before.before.before.before
 
 -- after question 1
 legal : (c : Else-not-is_legal) → legal_schedule (q (start c)) ≡ true
@@ -39,7 +39,7 @@ legal c = sym c.is_legal.ensures ∙ not-false _ c.if-not-is_legal.false
 -- after questions 2 and 3
 module _ (c : Else-count-first) where
   abbrev e : Else-not-is_legal
-  e = c
+  e = c.before.before.before
 
   low : 1 ≤ n (start e)
   low = c.if-count-lt1.false

@@ -13,7 +13,7 @@ bounds-s c = omega (arith, c.syndrome_of-s.ensures, syndrome-lt c.args.word)
 
 -- a place fits 5 bits
 place-small : (c : After-syndrome_of-s) → place_of c.syndrome_of-s.result < 32
-place-small c = place-lt c.syndrome_of-s.result (array-read-place c)
+place-small c = place-lt c.syndrome_of-s.result (omega (arith, c.syndrome_of-s.ensures, syndrome-lt c.args.word))
 
 pub overflow_cast-minute : goal.overflow_cast-minute
 unfolding places

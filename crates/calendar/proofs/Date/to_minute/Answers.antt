@@ -38,7 +38,7 @@ module _ (c : After-struct_known-2-1) where
   date = c.args.self
 
   real : (first_year ≤ date.year) × (date.year < first_year + year_count) × (1 ≤ date.month) × (date.month ≤ 12)
-  real = real-month date (tested c)
+  real = real-month date (tested c.before.before)
 
   same-year : first_year + (date.year - first_year) ≡ date.year
   same-year = omega (arith, real)
@@ -48,10 +48,10 @@ has_real_day-requires c =
     omega (arith, real (goal.at.has_real_day-requires c).After-struct_known-2-1)
 
 -- the answer to question 15
-answer : (c : After-has_real_day) → real_date (date c) ≡ c.has_real_day.result
+answer : (c : After-has_real_day) → real_date (date c.before) ≡ c.has_real_day.result
 answer c =
-    real-parts (date c) (tested c)
-    ∙ sym (rw (same-year c) at c.has_real_day.ensures)
+    real-parts (date c.before) (tested c.before.before.before)
+    ∙ sym (rw (same-year c.before) at c.has_real_day.ensures)
 
 pub returns-then-not-has_real_day : goal.returns-then-not-has_real_day
 unfolding minute_of_date minute_questions asked
@@ -59,8 +59,8 @@ returns-then-not-has_real_day c =
     rw (answer (goal.at.returns-then-not-has_real_day c).After-has_real_day ∙ not-true _ c.if-not-has_real_day.true)
 
 -- a date that passed the tests is real
-passed : (c : Else-not-has_real_day) → Real (date c)
-passed c = true-real (date c) (answer c ∙ not-false _ c.if-not-has_real_day.false)
+passed : (c : Else-not-has_real_day) → Real (date c.before.before)
+passed c = true-real (date c.before.before) (answer c.before ∙ not-false _ c.if-not-has_real_day.false)
 
 pub month_start-requires : goal.month_start-requires
 month_start-requires c =
@@ -69,14 +69,14 @@ month_start-requires c =
 -- the month's first day and the day make the day's number
 module _ (c : After-month_start) where
   abbrev self : Date
-  self = date c
+  self = date c.before.before.before
 
   number : c.month_start.result + (self.day - 1) ≡ day_number self
   unfolding day_number month_start
-  number = omega (arith, rw (same-year c) at c.month_start.ensures)
+  number = omega (arith, rw (same-year c.before.before.before) at c.month_start.ensures)
 
   small : day_number self < day_count
-  small = day-in-range self (passed c)
+  small = day-in-range self (passed c.before)
 
 pub overflow_sub-day : goal.overflow_sub-day
 overflow_sub-day c = omega (arith, passed (goal.at.overflow_sub-day c).Else-not-has_real_day)

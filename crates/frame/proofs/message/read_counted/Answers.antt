@@ -46,7 +46,7 @@ module _ (k : After-is_known) where
   abbrev e : Entry
   e = message_in (Minute m l) f
 
-q20 : (c : Else-not-is_known) → question20 (Minute (m c) (l c)) ≡ true
+q20 : (c : Else-not-is_known) → question20 (Minute (m c.before) (l c.before)) ≡ true
 q20 c = sym c.is_Known.ensures ∙ not-false _ c.if-not-is_known.false
 
 -- where question 13 is asked

@@ -25,7 +25,7 @@ fits c = omega (arith, c.requires.2, length-line c.args.plan c.args.minute)
 
 module _ (c : After-put_number-a) where
   abbrev start : Start
-  start = c
+  start = c.before.before.before.before
 
   abbrev seconds : ℕ
   seconds = c.length-seconds.result
@@ -44,7 +44,7 @@ module _ (c : After-put_number-a) where
 
 module _ (c : After-put_number) where
   abbrev first : After-put_number-a
-  first = c
+  first = c.before.before.before.before
 
   abbrev at₂ : ℕ
   at₂ = first.put-number.result + c.put_number.result
@@ -64,7 +64,7 @@ module _ (c : After-put_number) where
 
 module _ (c : After-put_frame) where
   abbrev second : After-put_number
-  second = c
+  second = c.before.before.before.before
 
   abbrev p : Plan
   p = (start (first second)).args.plan
