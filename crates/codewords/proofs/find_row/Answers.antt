@@ -10,10 +10,7 @@ use Rattle.codewords.specs.CodeWords.{next_words, row_among}
 use Rattle.codewords.proofs.RowList.{row-place}
 use Rattle.codewords.proofs.Search.{search-here, search-on, search-end}
 use Rattle.codewords.proofs.find_row.Goals as goal
-
--- the row's word is the word
-is : ℕ → ℕ → Bool
-is word row = eqb (get_or next_words row 0) word
+use Rattle.codewords.proofs.find_row.Invariants.{is}
 
 pub loop-row-init : goal.loop-row-init
 unfolding row_among is

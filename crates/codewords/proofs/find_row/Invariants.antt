@@ -13,6 +13,10 @@ use Rattle.codewords.proofs.RowList.{row-place}
 use Rattle.codewords.proofs.Search.{search-here, search-on, search-end}
 use Rattle.codewords.proofs.find_row.Given as goal
 
+-- the row's word is the word
+unfoldable pub is : ℕ → ℕ → Bool
+is word row = eqb (get_or next_words row 0) word
+
 abbrev pub invariant-loop-row : goal.invariant-loop-row
 invariant-loop-row l =
     (1 ≤ l.row) × (l.row ≤ l.end) × (first (is l.word) l.row (l.end - l.row) ≡ row_among l.from l.end l.word)

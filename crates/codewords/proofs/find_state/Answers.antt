@@ -9,10 +9,7 @@ use Rattle.bits.specs.Bits.{first}
 use Rattle.codewords.specs.CodeWords.{illegal, state_words, state_of}
 use Rattle.codewords.proofs.Search.{search-here, search-on, search-end}
 use Rattle.codewords.proofs.find_state.Goals as goal
-
--- the state word of number k is the word
-is : ℕ → ℕ → Bool
-is word k = eqb (get_or state_words k 0) word
+use Rattle.codewords.proofs.find_state.Invariants.{is}
 
 pub returns-then-k-word : goal.returns-then-k-word
 unfolding is state_words
