@@ -13,18 +13,18 @@ use Rattle.amplitude_reader.proofs.has_real_fields.Goals as goal
 
 pub returns-then-not-is_sign : goal.returns-then-not-is_sign
 unfolding real_fields
-returns-then-not-is_sign c = rw (sym c.is_sign.ensures ∙ not-true _ c.if-not-is_sign.true)
+returns-then-not-is_sign c = rw (sym c.is_sign.ensures ∙ c.if-not-is_sign.true)
 
 pub returns-then-x-ge60 : goal.returns-then-x-ge60
 unfolding real_fields
 returns-then-x-ge60 c =
-    rw (sym c.is_sign.ensures ∙ not-false _ c.if-not-is_sign.false, le-ltb _ _ c.if-x-ge60.true)
+    rw (sym c.is_sign.ensures ∙ c.if-not-is_sign.false, le-ltb _ _ c.if-x-ge60.true)
 
 pub returns-then-x-ge24 : goal.returns-then-x-ge24
 unfolding real_fields
 returns-then-x-ge24 c =
     rw (
-      sym c.is_sign.ensures ∙ not-false _ c.if-not-is_sign.false,
+      sym c.is_sign.ensures ∙ c.if-not-is_sign.false,
       lt-ltb _ _ c.if-x-ge60.false,
       le-ltb _ _ c.if-x-ge24.true,
     )
@@ -33,7 +33,7 @@ pub returns-then-x-lt1 : goal.returns-then-x-lt1
 unfolding real_fields
 returns-then-x-lt1 c =
     rw (
-      sym c.is_sign.ensures ∙ not-false _ c.if-not-is_sign.false,
+      sym c.is_sign.ensures ∙ c.if-not-is_sign.false,
       lt-ltb _ _ c.if-x-ge60.false,
       lt-ltb _ _ c.if-x-ge24.false,
       lt-leb 1 _ c.if-x-lt1.true,
@@ -48,7 +48,7 @@ unfolding real_fields
 returns-then-mark-x c =
     let x = c.args.x in
     rw (
-      sym c.is_sign.ensures ∙ not-false _ c.if-not-is_sign.false,
+      sym c.is_sign.ensures ∙ c.if-not-is_sign.false,
       lt-ltb _ _ c.if-x-ge60.false,
       lt-ltb _ _ c.if-x-ge24.false,
       le-leb 1 _ c.if-x-lt1.false,
@@ -61,7 +61,7 @@ returns c =
     let x = c.args.x in
     let l = c.leap_mark-mark.ensures in
     rw (
-      sym c.is_sign.ensures ∙ not-false _ c.if-not-is_sign.false,
+      sym c.is_sign.ensures ∙ c.if-not-is_sign.false,
       lt-ltb _ _ c.if-x-ge60.false,
       lt-ltb _ _ c.if-x-ge24.false,
       le-leb 1 _ c.if-x-lt1.false,

@@ -14,16 +14,16 @@ returns-then-warning-ne1 c = rw (ne_eqb _ _ c.if-warning-ne1.true) (simp (and-fa
 pub returns-then-not-is_last_of_month : goal.returns-then-not-is_last_of_month
 unfolding length_fits
 returns-then-not-is_last_of_month c =
-    rw (sym c.is_last_of_month.ensures ∙ not-true _ c.if-not-is_last_of_month.true)
+    rw (sym c.is_last_of_month.ensures ∙ c.if-not-is_last_of_month.true)
 
 pub returns-then-seconds-eq-MIN_FRAME : goal.returns-then-seconds-eq-MIN_FRAME
 unfolding length_fits
 returns-then-seconds-eq-MIN_FRAME c =
     rw
-    (sym c.is_last_of_month.ensures ∙ not-false _ c.if-not-is_last_of_month.false, eq-eqb _ _ c.if-warning-ne1.false, eq-eqb _ _ c.if-seconds-eq-MIN_FRAME.true)
+    (sym c.is_last_of_month.ensures ∙ c.if-not-is_last_of_month.false, eq-eqb _ _ c.if-warning-ne1.false, eq-eqb _ _ c.if-seconds-eq-MIN_FRAME.true)
 
 pub returns : goal.returns
 unfolding length_fits
 returns c =
     rw
-    (sym c.is_last_of_month.ensures ∙ not-false _ c.if-not-is_last_of_month.false, eq-eqb _ _ c.if-warning-ne1.false, ne_eqb _ _ c.if-seconds-eq-MIN_FRAME.false)
+    (sym c.is_last_of_month.ensures ∙ c.if-not-is_last_of_month.false, eq-eqb _ _ c.if-warning-ne1.false, ne_eqb _ _ c.if-seconds-eq-MIN_FRAME.false)

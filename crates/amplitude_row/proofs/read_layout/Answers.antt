@@ -15,19 +15,19 @@ returns-then-s-gt-LONGEST c = too_long c.args.s.now c.if-s-gt-LONGEST.true
 
 pub returns-then-not-ends_marked : goal.returns-then-not-ends_marked
 returns-then-not-ends_marked c =
-    not-marked c.args.s.now (sym c.ends_marked.ensures ∙ not-true _ c.if-not-ends_marked.true)
+    not-marked c.args.s.now (sym c.ends_marked.ensures ∙ c.if-not-ends_marked.true)
 
 pub returns-then-not-has_blanks : goal.returns-then-not-has_blanks
 returns-then-not-has_blanks c =
     let l = c.lines_in-lines in
     no_row c.args.s.now
-    (row_fits_lem c.args.s.now c.if-s-lt-ROW.false l.result l.ensures ∙ sym c.has_blanks.ensures ∙ not-true _ c.if-not-has_blanks.true)
+    (row_fits_lem c.args.s.now c.if-s-lt-ROW.false l.result l.ensures ∙ sym c.has_blanks.ensures ∙ c.if-not-has_blanks.true)
 
 pub returns : goal.returns
 returns c =
     let l = c.lines_in-lines in
     let low = c.if-s-lt-ROW.false in
-    let blank = sym c.has_blanks.ensures ∙ not-false _ c.if-not-has_blanks.false in
+    let blank = sym c.has_blanks.ensures ∙ c.if-not-has_blanks.false in
     has-layout c.args.s.now low c.if-s-gt-LONGEST.false (row_fits_lem c.args.s.now low l.result l.ensures ∙ blank)
-    (sym c.ends_marked.ensures ∙ not-false _ c.if-not-ends_marked.false) _
+    (sym c.ends_marked.ensures ∙ c.if-not-ends_marked.false) _
     (c.row_of.ensures ∙ sym (row-numbers c.args.s.now low l.result l.ensures blank))

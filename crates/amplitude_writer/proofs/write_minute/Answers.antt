@@ -28,7 +28,7 @@ legal : (c : Else-not-is_legal-2) → legal_schedule (schedule (start c)) ≡ tr
 legal c =
     let p = c.before.before in
     both-legal (schedule (start c)) (sym p.is_legal.ensures ∙ not-false _ p.if-not-is_legal.false)
-    (sym c.is_legal-2.ensures ∙ not-false _ c.if-not-is_legal-2.false)
+    (sym c.is_legal-2.ensures ∙ c.if-not-is_legal-2.false)
 
 -- UT1, as it came in
 ut1 : (c : After-is_ut1) → let s = start c.before.before in
@@ -38,7 +38,7 @@ ut1 c = let s = start c.before.before in
 
 legal-ut1 : (c : Else-not-is_ut1) → let s = start c.before.before.before in
     legal_ut1 s.args.sign s.args.tenths ≡ true
-legal-ut1 c = sym (ut1 c.before) ∙ not-false _ c.if-not-is_ut1.false
+legal-ut1 c = sym (ut1 c.before) ∙ c.if-not-is_ut1.false
 
 values : (c : After-values_at-values) → let s = start c.before.before.before.before in
     c.values_at-values.result ≡ values_at s.args.plan s.args.minute s.args.sign s.args.tenths
@@ -48,12 +48,12 @@ values c = let s = start c.before.before.before.before in
 pub returns-then-not-is_legal : goal.returns-then-not-is_legal
 returns-then-not-is_legal c =
     no-1 (schedule c) c.args.minute c.args.sign c.args.tenths c.args.out.now
-    (plan-illegal (schedule c) (sym c.is_legal.ensures ∙ not-true _ c.if-not-is_legal.true))
+    (plan-illegal (schedule c) (sym c.is_legal.ensures ∙ c.if-not-is_legal.true))
 
 pub returns-then-not-is_legal-2 : goal.returns-then-not-is_legal-2
 returns-then-not-is_legal-2 c =
     no-1 (schedule c) c.args.minute c.args.sign c.args.tenths c.args.out.now
-    (messages-illegal (schedule c) (sym c.is_legal-2.ensures ∙ not-true _ c.if-not-is_legal-2.true))
+    (messages-illegal (schedule c) (sym c.is_legal-2.ensures ∙ c.if-not-is_legal-2.true))
 
 pub returns-then-minute-ge-MINUTES : goal.returns-then-minute-ge-MINUTES
 returns-then-minute-ge-MINUTES c =
@@ -66,7 +66,7 @@ returns-then-not-is_ut1 c =
     let s = start c in
     no-18 (schedule s) s.args.minute s.args.sign s.args.tenths s.args.out.now
     (legal (goal.at.returns-then-not-is_ut1 c).Else-not-is_legal-2) c.if-minute-ge-MINUTES.false
-    (sym (ut1 (goal.at.returns-then-not-is_ut1 c).After-is_ut1) ∙ not-true _ c.if-not-is_ut1.true)
+    (sym (ut1 (goal.at.returns-then-not-is_ut1 c).After-is_ut1) ∙ c.if-not-is_ut1.true)
 
 pub returns-then-out-needed : goal.returns-then-out-needed
 returns-then-out-needed c =

@@ -11,6 +11,10 @@ use Rattle.codewords.proofs.Search.{search-here, search-on, search-end}
 use Rattle.codewords.proofs.find_state.Goals as goal
 use Rattle.codewords.proofs.find_state.Invariants.{is}
 
+pub loop-number-init : goal.loop-number-init
+unfolding state_of is
+loop-number-init c = (omega arith, refl)
+
 pub returns-then-k-word : goal.returns-then-k-word
 unfolding is state_words
 returns-then-k-word c =

@@ -21,7 +21,7 @@ abbrev clock : Else-not-is_real → Clock
 clock c = c.clock_in-clock.result
 
 real : (c : Else-not-is_real) → real_clock (clock c) ≡ true
-real c = sym c.is_real.ensures ∙ not-false _ c.if-not-is_real.false
+real c = sym c.is_real.ensures ∙ c.if-not-is_real.false
 
 pub returns-then-elements-ne-ELEMENTS : goal.returns-then-elements-ne-ELEMENTS
 returns-then-elements-ne-ELEMENTS c =
@@ -30,7 +30,7 @@ returns-then-elements-ne-ELEMENTS c =
 pub returns-then-not-is_real : goal.returns-then-not-is_real
 returns-then-not-is_real c =
     not-real c.args.elements.now c.clock_in-clock.result c.clock_in-clock.ensures
-    (sym c.is_real.ensures ∙ not-true _ c.if-not-is_real.true)
+    (sym c.is_real.ensures ∙ c.if-not-is_real.true)
 
 pub is_row-requires : goal.is_row-requires
 is_row-requires c =

@@ -27,7 +27,7 @@ legal : (c : Else-not-is_legal-2) → legal_schedule (schedule (start c)) ≡ tr
 legal c =
     let p = c.before.before in
     both-legal (schedule (start c)) (sym p.is_legal.ensures ∙ not-false _ p.if-not-is_legal.false)
-    (sym c.is_legal-2.ensures ∙ not-false _ c.if-not-is_legal-2.false)
+    (sym c.is_legal-2.ensures ∙ c.if-not-is_legal-2.false)
 
 -- question 21
 below : (c : Else-length-second) → let s = start c.before.before.before in
@@ -37,12 +37,12 @@ below c = omega (arith, c.length-length.ensures, c.if-length-second.false)
 pub returns-then-not-is_legal : goal.returns-then-not-is_legal
 returns-then-not-is_legal c =
     no-1 (schedule c) c.args.minute c.args.second c.args.out.now
-    (plan-illegal (schedule c) (sym c.is_legal.ensures ∙ not-true _ c.if-not-is_legal.true))
+    (plan-illegal (schedule c) (sym c.is_legal.ensures ∙ c.if-not-is_legal.true))
 
 pub returns-then-not-is_legal-2 : goal.returns-then-not-is_legal-2
 returns-then-not-is_legal-2 c =
     no-1 (schedule c) c.args.minute c.args.second c.args.out.now
-    (messages-illegal (schedule c) (sym c.is_legal-2.ensures ∙ not-true _ c.if-not-is_legal-2.true))
+    (messages-illegal (schedule c) (sym c.is_legal-2.ensures ∙ c.if-not-is_legal-2.true))
 
 pub returns-then-minute-ge-MINUTES : goal.returns-then-minute-ge-MINUTES
 returns-then-minute-ge-MINUTES c =

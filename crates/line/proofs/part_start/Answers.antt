@@ -8,6 +8,10 @@ use Rattle.line.specs.Line.{behind_spaces}
 use Rattle.line.proofs.Parts.{skip-space, skip-rest}
 use Rattle.line.proofs.part_start.Goals as goal
 
+pub loop-i-init : goal.loop-i-init
+unfolding behind_spaces
+loop-i-init c = (omega arith, omega arith, refl)
+
 pub loop-i-preserved : goal.loop-i-preserved
 loop-i-preserved c =
     let l = c.loop-i in

@@ -35,11 +35,11 @@ answer c =
 pub returns-then-not-is_legal : goal.returns-then-not-is_legal
 unfolding local_of local_questions asked
 returns-then-not-is_legal c =
-    rw (le-leb c.args.minute max_minute (omega arith), answer (goal.at.returns-then-not-is_legal c).After-is_legal ∙ not-true _ c.if-not-is_legal.true)
+    rw (le-leb c.args.minute max_minute (omega arith), answer (goal.at.returns-then-not-is_legal c).After-is_legal ∙ c.if-not-is_legal.true)
 
 -- the setting that passed it, in the numbers that the calls are given
 accepted : (c : Else-not-is_legal) → legal_setting c.args.state c.args.offset c.args.hour ≡ true
-accepted c = answer c.before ∙ not-false _ c.if-not-is_legal.false
+accepted c = answer c.before ∙ c.if-not-is_legal.false
 
 size : (c : Else-not-is_legal) → c.minutes_behind-behind.result ≡ nat_abs c.args.offset
 size c =

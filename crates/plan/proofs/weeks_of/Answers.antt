@@ -5,6 +5,10 @@ use mathlib.Core.Path.{refl}
 use native.Mathlib.Omega.{arith}
 use Rattle.plan.proofs.weeks_of.Goals as goal
 
+pub returns-then-row-first : goal.returns-then-row-first
+unfolding weeks
+returns-then-row-first c = omega arith
+
 pub returns-else-row-first : goal.returns-else-row-first
 unfolding weeks
 returns-else-row-first c = refl

@@ -34,7 +34,7 @@ start c = c.before.before.before.before
 
 -- after question 1
 legal : (c : Else-not-is_legal) → legal_schedule (q (start c)) ≡ true
-legal c = sym c.is_legal.ensures ∙ not-false _ c.if-not-is_legal.false
+legal c = sym c.is_legal.ensures ∙ c.if-not-is_legal.false
 
 -- after questions 2 and 3
 module _ (c : Else-count-first) where
@@ -52,7 +52,7 @@ module _ (c : Else-count-first) where
 
 pub returns-then-not-is_legal : goal.returns-then-not-is_legal
 returns-then-not-is_legal c =
-    no-1 (q (goal.at.returns-then-not-is_legal c).Start) (m (goal.at.returns-then-not-is_legal c).Start) (n (goal.at.returns-then-not-is_legal c).Start) (out (goal.at.returns-then-not-is_legal c).Start) (sym c.is_legal.ensures ∙ not-true _ c.if-not-is_legal.true)
+    no-1 (q (goal.at.returns-then-not-is_legal c).Start) (m (goal.at.returns-then-not-is_legal c).Start) (n (goal.at.returns-then-not-is_legal c).Start) (out (goal.at.returns-then-not-is_legal c).Start) (sym c.is_legal.ensures ∙ c.if-not-is_legal.true)
 
 pub returns-then-count-lt1 : goal.returns-then-count-lt1
 returns-then-count-lt1 c =

@@ -2,7 +2,6 @@
 -- Assumes nothing.
 use Prim.Native.Nat.{◌+◌, ◌≤◌}
 use mathlib.Core.Bool.{true, and-false, false≢true}
-use mathlib.Core.Logic.{⊎_elim}
 use mathlib.Core.Path.{sym, ◌∙◌}
 use borrow.Author.Rules.{rules}
 use borrow.Author.Tests.{lt-ltb, le-ltb, lt-leb, le-leb, leb-true, not-false}
@@ -11,7 +10,7 @@ use lib.ListN.{get_or}
 use Rattle.gregorian.specs.Gregorian.{first_year, months_of}
 use Rattle.gregorian.proofs.Months.{months-long}
 use Rattle.calendar.proofs.Date.has_real_day.Goals as goal
-use Rattle.calendar.proofs.Date.has_real_day.Goals.{Joined-not-early}
+use Rattle.calendar.proofs.Date.has_real_day.Goals.{then-not-early+else-self-lt1-2+else-lengths-month, else-not-early, then-self-lt1, else-self-lt1, Joined-not-early}
 
 pub returns-then-self-lt1-2 : goal.returns-then-self-lt1-2
 returns-then-self-lt1-2 c = rw (lt-leb _ _ c.if-self-lt1-2.true)
@@ -25,14 +24,14 @@ returns-then-lengths-month c =
 real : (c : Joined-not-early) → (1 ≤ c.args.self.day) × (c.args.self.day ≤ get_or (months_of (first_year + c.args.years)) c.args.month 0)
 real c =
     let a = c.args in
-    ⊎_elim
-    (λ w. (w.3.left, rw w.1.ensures at w.5.left))
-    (λ w.
-    ⊎_elim
-    (λ v. absurd (false≢true (sym v.1 ∙ not-false _ w.left)))
-    (λ v. (v.0.left, omega (arith, leb-true a.self.day _ (sym v.2 ∙ not-false _ w.left), months-long (first_year + a.years) a.month c.requires)))
-    c.if-self-lt1.branch)
-    c.if-not-early.branch
+    elim c.if-not-early.branch [
+      | then-not-early+else-self-lt1-2+else-lengths-month w ↦ (w.if-self-lt1-2.false, rw w.months_of-lengths.ensures at w.if-lengths-month.false)
+      | else-not-early w ↦
+          elim c.if-self-lt1.branch [
+            | then-self-lt1 v ↦ absurd (false≢true (sym v.early-is ∙ w.if-not-early.false))
+            | else-self-lt1 v ↦ (v.if-self-lt1.false, omega (arith, leb-true a.self.day _ (sym v.early-is ∙ w.if-not-early.false), months-long (first_year + a.years) a.month c.requires))
+          ]
+    ]
 
 pub returns-then-self-ge24 : goal.returns-then-self-ge24
 returns-then-self-ge24 c =

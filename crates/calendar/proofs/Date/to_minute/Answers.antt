@@ -19,11 +19,11 @@ use Rattle.calendar.proofs.Date.to_minute.Goals.{After-has_real_day, After-month
 pub returns-then-not-has_real_month : goal.returns-then-not-has_real_month
 unfolding minute_of_date minute_questions asked
 returns-then-not-has_real_month c =
-    rw (month-unreal c.args.self (sym c.has_real_month.ensures ∙ not-true _ c.if-not-has_real_month.true))
+    rw (month-unreal c.args.self (sym c.has_real_month.ensures ∙ c.if-not-has_real_month.true))
 
 -- the year and the month are real
 tested : (c : Else-not-has_real_month) → month_test c.args.self ≡ true
-tested c = sym c.has_real_month.ensures ∙ not-false _ c.if-not-has_real_month.false
+tested c = sym c.has_real_month.ensures ∙ c.if-not-has_real_month.false
 
 pub overflow_sub-years : goal.overflow_sub-years
 overflow_sub-years c =
@@ -56,11 +56,11 @@ answer c =
 pub returns-then-not-has_real_day : goal.returns-then-not-has_real_day
 unfolding minute_of_date minute_questions asked
 returns-then-not-has_real_day c =
-    rw (answer (goal.at.returns-then-not-has_real_day c).After-has_real_day ∙ not-true _ c.if-not-has_real_day.true)
+    rw (answer (goal.at.returns-then-not-has_real_day c).After-has_real_day ∙ c.if-not-has_real_day.true)
 
 -- a date that passed the tests is real
 passed : (c : Else-not-has_real_day) → Real (date c.before.before)
-passed c = true-real (date c.before.before) (answer c.before ∙ not-false _ c.if-not-has_real_day.false)
+passed c = true-real (date c.before.before) (answer c.before ∙ c.if-not-has_real_day.false)
 
 pub month_start-requires : goal.month_start-requires
 month_start-requires c =
@@ -104,4 +104,4 @@ overflow_add-result-2 c =
 pub returns : goal.returns
 unfolding minute_of_date minute_questions asked minute_at
 returns c =
-    rw (answer (goal.at.returns c).After-has_real_day ∙ not-false _ c.if-not-has_real_day.false) (ap (λ t. found (t ∷ [])) (omega (arith, number (goal.at.returns c).After-month_start)))
+    rw (answer (goal.at.returns c).After-has_real_day ∙ c.if-not-has_real_day.false) (ap (λ t. found (t ∷ [])) (omega (arith, number (goal.at.returns c).After-month_start)))

@@ -47,7 +47,7 @@ module _ (k : After-is_known) where
   e = message_in (Minute m l) f
 
 q20 : (c : Else-not-is_known) → question20 (Minute (m c.before) (l c.before)) ≡ true
-q20 c = sym c.is_Known.ensures ∙ not-false _ c.if-not-is_known.false
+q20 c = sym c.is_Known.ensures ∙ c.if-not-is_known.false
 
 -- where question 13 is asked
 module _ (a : After-ends_right) where
@@ -81,7 +81,7 @@ module _ (b : After-echo_bit) where
 
 pub returns-then-not-is_known : goal.returns-then-not-is_known
 returns-then-not-is_known c =
-    sym (no-20 (m (goal.at.returns-then-not-is_known c).After-is_known) (l (goal.at.returns-then-not-is_known c).After-is_known) (one (goal.at.returns-then-not-is_known c).After-is_known) (f (goal.at.returns-then-not-is_known c).After-is_known) (e (goal.at.returns-then-not-is_known c).After-is_known) (sym c.is_Known.ensures ∙ not-true _ c.if-not-is_known.true))
+    sym (no-20 (m (goal.at.returns-then-not-is_known c).After-is_known) (l (goal.at.returns-then-not-is_known c).After-is_known) (one (goal.at.returns-then-not-is_known c).After-is_known) (f (goal.at.returns-then-not-is_known c).After-is_known) (e (goal.at.returns-then-not-is_known c).After-is_known) (sym c.is_Known.ensures ∙ c.if-not-is_known.true))
 
 pub returns-then-minute-ge-MINUTES : goal.returns-then-minute-ge-MINUTES
 unfolding message_in message_entry
@@ -94,7 +94,7 @@ ends_right-requires c = rw c.seconds_for-length.ensures (seconds-long _ _)
 pub returns-then-not-ends_right : goal.returns-then-not-ends_right
 returns-then-not-ends_right c =
     let k = g (goal.at.returns-then-not-ends_right c).After-ends_right in
-    sym (no-13 (m k) (l k) (one k) (f k) (e k) (q20 (o (goal.at.returns-then-not-ends_right c).After-ends_right)) (q11 (goal.at.returns-then-not-ends_right c).After-ends_right) (sym (q13 (goal.at.returns-then-not-ends_right c).After-ends_right) ∙ not-true _ c.if-not-ends_right.true))
+    sym (no-13 (m k) (l k) (one k) (f k) (e k) (q20 (o (goal.at.returns-then-not-ends_right c).After-ends_right)) (q11 (goal.at.returns-then-not-ends_right c).After-ends_right) (sym (q13 (goal.at.returns-then-not-ends_right c).After-ends_right) ∙ c.if-not-ends_right.true))
 
 pub returns-then-echo_bit-minute : goal.returns-then-echo_bit-minute
 unfolding message_in message_entry

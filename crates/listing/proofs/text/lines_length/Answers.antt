@@ -8,6 +8,10 @@ use Rattle.listing.specs.Listing.{frame_lines}
 use Rattle.listing.proofs.Texts.{lines_of, length-snoc, lines-small}
 use Rattle.listing.proofs.text.lines_length.Goals as goal
 
+pub loop-i-init : goal.loop-i-init
+unfolding frames frame_lines
+loop-i-init c = (omega arith, refl)
+
 pub overflow_add-sum : goal.overflow_add-sum
 overflow_add-sum c =
     let a = c.args in
