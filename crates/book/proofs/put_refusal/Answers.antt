@@ -17,10 +17,10 @@ pub returns-in-Listed : goal.returns-in-Listed
 returns-in-Listed c =
     let a = c.args in
     let x = c.answer-1.given in
-    text-listed (refused_text a.number) a.out.now c.Put-refused.new.1.0 (space (goal.at.returns-in-Listed c).After-put_refused-arg-1) x.0.0 (rw x.1 at c.Put-refused.ensures)
+    text-listed (refused_text a.number) a.out.now c.put_refused-answer.new.out (space (goal.at.returns-in-Listed c).After-put_refused-arg-1) x.0.0 (rw x.1 at c.put_refused-answer.ensures)
 
 pub returns-in-NoSpace : goal.returns-in-NoSpace
 returns-in-NoSpace c =
     let a = c.args in
-    let e = rw c.in-NoSpace.is at c.Put-refused.ensures in
-    absurd (never-unlisted (refused_text a.number) a.out.now c.Put-refused.new.1.0 (space (goal.at.returns-in-NoSpace c).After-put_refused-arg-1) 0 e)
+    let e = rw c.in-NoSpace.is at c.put_refused-answer.ensures in
+    absurd (never-unlisted (refused_text a.number) a.out.now c.put_refused-answer.new.out (space (goal.at.returns-in-NoSpace c).After-put_refused-arg-1) 0 e)

@@ -15,7 +15,7 @@ slice_bounds-read_line-end c = sym (length-take-le _ _ c.find-end.ensures.1)
 pub returns-in-Illegal : goal.returns-in-Illegal
 returns-in-Illegal c =
     let i = c.args.input.now in
-    c.Put-refused.ensures
+    c.put_refused.ensures
     ∙ ap (put_into _) (illegal-listing i (sym (c.read_line-line.ensures ∙ ap line_in (cut_line i c.find-end.result c.find-end.ensures.0)) ∙ c.in-Illegal.is))
 
 pub returns-in-Numbers : goal.returns-in-Numbers

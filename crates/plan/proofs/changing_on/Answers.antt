@@ -6,4 +6,4 @@ use Rattle.plan.proofs.changing_on.Goals as goal
 
 pub returns : goal.returns
 unfolding changing
-returns c = rw (c.daylight_of.ensures, c.is_within-2.ensures, c.is_Within.ensures)
+returns c = rw (c.daylight_of.ensures, c.is_within-2.ensures, c.is_within.ensures)

@@ -7,16 +7,16 @@ use Rattle.plan.proofs.legal_leap.Goals as goal
 
 pub returns-then-leap_sign-eq0 : goal.returns-then-leap_sign-eq0
 unfolding legal_leap
-returns-then-leap_sign-eq0 c = rw (of-bits _ 0 c.ranges.leap-sign c.if-leap_sign-eq0.true)
+returns-then-leap_sign-eq0 c = rw (of-bits _ 0 c.ranges.leap_sign c.if-leap_sign-eq0.true)
 
 pub returns-then-leap_sign-eq1 : goal.returns-then-leap_sign-eq1
 unfolding legal_leap
-returns-then-leap_sign-eq1 c = rw (of-bits _ 1 c.ranges.leap-sign c.if-leap_sign-eq1.true)
+returns-then-leap_sign-eq1 c = rw (of-bits _ 1 c.ranges.leap_sign c.if-leap_sign-eq1.true)
 
 pub returns-then-leap_sign-eqminus1 : goal.returns-then-leap_sign-eqminus1
 unfolding legal_leap
 returns-then-leap_sign-eqminus1 c =
-    rw (of-bits _ 4294967295 c.ranges.leap-sign c.if-leap_sign-eqminus1.true)
+    rw (of-bits _ 4294967295 c.ranges.leap_sign c.if-leap_sign-eqminus1.true)
 
 pub returns : goal.returns
 returns c =

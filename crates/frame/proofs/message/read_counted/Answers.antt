@@ -47,7 +47,7 @@ module _ (k : After-is_known) where
   e = message_in (Minute m l) f
 
 q20 : (c : Else-not-is_known) → question20 (Minute (m c.before) (l c.before)) ≡ true
-q20 c = sym c.is_Known.ensures ∙ c.if-not-is_known.false
+q20 c = sym c.is_known.ensures ∙ c.if-not-is_known.false
 
 -- where question 13 is asked
 module _ (a : After-ends_right) where
@@ -81,7 +81,7 @@ module _ (b : After-echo_bit) where
 
 pub returns-then-not-is_known : goal.returns-then-not-is_known
 returns-then-not-is_known c =
-    sym (no-20 (m (goal.at.returns-then-not-is_known c).After-is_known) (l (goal.at.returns-then-not-is_known c).After-is_known) (one (goal.at.returns-then-not-is_known c).After-is_known) (f (goal.at.returns-then-not-is_known c).After-is_known) (e (goal.at.returns-then-not-is_known c).After-is_known) (sym c.is_Known.ensures ∙ c.if-not-is_known.true))
+    sym (no-20 (m (goal.at.returns-then-not-is_known c).After-is_known) (l (goal.at.returns-then-not-is_known c).After-is_known) (one (goal.at.returns-then-not-is_known c).After-is_known) (f (goal.at.returns-then-not-is_known c).After-is_known) (e (goal.at.returns-then-not-is_known c).After-is_known) (sym c.is_known.ensures ∙ c.if-not-is_known.true))
 
 pub returns-then-minute-ge-MINUTES : goal.returns-then-minute-ge-MINUTES
 unfolding message_in message_entry

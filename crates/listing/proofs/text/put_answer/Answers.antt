@@ -19,4 +19,4 @@ returns-then-refusal-eq0 c =
 pub returns-else-refusal-eq0 : goal.returns-else-refusal-eq0
 returns-else-refusal-eq0 c =
     let q = c.args.request in
-    rw (← refused-answer q c.refusal_with_room-refusal.result c.refusal_with_room-refusal.ensures c.if-refusal-eq0.false) c.Put-refused.ensures
+    rw (← refused-answer q c.refusal_with_room-refusal.result c.refusal_with_room-refusal.ensures c.if-refusal-eq0.false) c.put_refused.ensures

@@ -25,7 +25,7 @@ returns-then-legal_leap c =
     rw (
       ← c.legal_rows.ensures,
       c.if-legal_rows.true,
-      leap-tested c,
+      leap-tested (goal.at.returns-then-legal_leap c).After-legal_leap,
       c.if-legal_leap.true,
     )
 
@@ -35,7 +35,7 @@ returns-else-legal_leap c =
     rw (
       ← c.legal_rows.ensures,
       c.if-legal_rows.true,
-      leap-tested c,
+      leap-tested (goal.at.returns-else-legal_leap c).After-legal_leap,
       c.if-legal_leap.false,
     )
 
