@@ -53,7 +53,8 @@ read_number (suc n) x a b h =
     let same : a ++ ((number_bytes n y ++ (z ∷ [])) ++ b) ≡ a ++ (number_bytes n y ++ (z ∷ b)) = ap (λ l. a ++ l) (append_assoc (number_bytes n y) (z ∷ []) b) in
     let last : get_or (a ++ (number_bytes n y ++ (z ∷ b))) (length a + n) 0 ≡ z =
     get_or-append-add a (number_bytes n y ++ (z ∷ b)) n 0 ∙ get_or_at (number_bytes n y) z b 0 n (length-number n y) in
-    rw (same, read_number n y a (z ∷ b) less, last) (omega arith)
+    let rest : big_endian (a ++ (number_bytes n y ++ (z ∷ b))) (length a) (suc n) ≡ x = rw (read_number n y a (z ∷ b) less, last) (omega arith) in
+    ap (λ (l : List ℕ). big_endian l (length a) (suc n)) same ∙ rest
 
 module _ (c : Message) (m : c.minute < 2 ^ 32) (d : c.payload < 2 ^ 48) (a b : List ℕ) (k : ℕ) (here : length a ≡ k * message_size) where
   abbrev M : List ℕ

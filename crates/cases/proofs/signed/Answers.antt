@@ -13,11 +13,11 @@ returns-then-minus-text c =
     let a = c.args in
     let n = c.number.result in
     neg-back (n % 65536) (omega arith)
-    ∙ rw c.number.ensures (signed_below a.k a.text.now _ c.find-minus.ensures.0 c.if-minus-text.true)
+    ∙ rw c.number.ensures (signed_below a.k a.text.now _ c.find-minus.ensures.value c.if-minus-text.true)
 
 pub returns-else-minus-text : goal.returns-else-minus-text
 returns-else-minus-text c =
     let a = c.args in
     let n = c.number.result in
     pos-back (n % 65536) (omega arith)
-    ∙ rw c.number.ensures (signed_above a.k a.text.now _ c.find-minus.ensures.0 c.if-minus-text.false)
+    ∙ rw c.number.ensures (signed_above a.k a.text.now _ c.find-minus.ensures.value c.if-minus-text.false)

@@ -52,12 +52,14 @@ returns-then-out-lt-ENTRY_SIZE c =
 
 pub overflow_add-next : goal.overflow_add-next
 overflow_add-next c =
-    omega (arith, (accepted (z (goal.at.overflow_add-next c).In-Read).args.due (z (goal.at.overflow_add-next c).In-Read).args.alone (z (goal.at.overflow_add-next c).In-Read).args.bits.now (e (goal.at.overflow_add-next c).In-Read) (entry-is (goal.at.overflow_add-next c).In-Read)).minute-in)
+    let d = (goal.at.overflow_add-next c).In-Read in
+    omega (arith, (accepted (z d).args.due (z d).args.alone (z d).args.bits.now (e d) (entry-is d)).minute-in)
 
 pub overflow_add-next-in-Message : goal.overflow_add-next-in-Message
 unfolding message_entry
 overflow_add-next-in-Message c =
-    omega (arith, (accepted (zm (goal.at.overflow_add-next-in-Message c).In-Message).args.due (zm (goal.at.overflow_add-next-in-Message c).In-Message).args.alone (zm (goal.at.overflow_add-next-in-Message c).In-Message).args.bits.now (em (goal.at.overflow_add-next-in-Message c).In-Message) (message-is (goal.at.overflow_add-next-in-Message c).In-Message)).minute-in)
+    let d = (goal.at.overflow_add-next-in-Message c).In-Message in
+    omega (arith, (accepted (zm d).args.due (zm d).args.alone (zm d).args.bits.now (em d) (message-is d)).minute-in)
 
 pub returns-in-Refused : goal.returns-in-Refused
 returns-in-Refused c =
@@ -68,15 +70,17 @@ returns-in-Refused c =
 
 pub returns-in-Read : goal.returns-in-Read
 returns-in-Read c =
-    let a = (z (goal.at.returns-in-Read c).In-Read).args in
+    let d = (goal.at.returns-in-Read c).In-Read in
+    let a = (z d).args in
     let put = c.put_entry in
-    advances a.due a.alone a.out.now a.bits.now (e (goal.at.returns-in-Read c).In-Read) put.new.out _ (r (goal.at.returns-in-Read c).In-Read).before.if1.false (entry-is (goal.at.returns-in-Read c).In-Read) put.ensures
+    advances a.due a.alone a.out.now a.bits.now (e d) put.new.out _ (r d).before.if1.false (entry-is d) put.ensures
     (after-time a.due c.in-Read.state c.in-Read.fields _ c.leap_after_time-leap.ensures)
 
 pub returns-in-Message : goal.returns-in-Message
 unfolding message_entry
 returns-in-Message c =
-    let a = (zm (goal.at.returns-in-Message c).In-Message).args in
+    let d = (goal.at.returns-in-Message c).In-Message in
+    let a = (zm d).args in
     let put = c.put_message in
-    advances a.due a.alone a.out.now a.bits.now (em (goal.at.returns-in-Message c).In-Message) put.new.out _ (rm (goal.at.returns-in-Message c).In-Message).before.if1.false (message-is (goal.at.returns-in-Message c).In-Message) put.ensures
-    (after-message a.due (told (goal.at.returns-in-Message c).In-Message) _ (c.leap_after-leap.ensures ∙ rw c.leap_read.ensures))
+    advances a.due a.alone a.out.now a.bits.now (em d) put.new.out _ (rm d).before.if1.false (message-is d) put.ensures
+    (after-message a.due (told d) _ (c.leap_after-leap.ensures ∙ rw c.leap_read.ensures))

@@ -179,30 +179,36 @@ loop-used-init c =
 
 pub shape_of-entries-in-Halt : goal.shape_of-entries-in-Halt
 shape_of-entries-in-Halt c =
-    ap length (kept (goal.at.shape_of-entries-in-Halt c).In-Halt) ∙ (a (rh (goal.at.shape_of-entries-in-Halt c).In-Halt)).loop.inv.2
+    let d = (goal.at.shape_of-entries-in-Halt c).In-Halt in
+    ap length (kept d) ∙ (a (rh d)).loop.inv.2
 
 pub returns-in-Halt : goal.returns-in-Halt
 returns-in-Halt c =
-    let b = a (rh (goal.at.returns-in-Halt c).In-Halt) in
-    stopped-at b (question (goal.at.returns-in-Halt c).In-Halt) _ (kept (goal.at.returns-in-Halt c).In-Halt)
-    (rw (← free-slots b) (refused-step (length (part b)) b.loop.next (rest b) (some (rh (goal.at.returns-in-Halt c).In-Halt).before.before.before) (question (goal.at.returns-in-Halt c).In-Halt) (refused-is (goal.at.returns-in-Halt c).In-Halt)))
+    let d = (goal.at.returns-in-Halt c).In-Halt in
+    let b = a (rh d) in
+    stopped-at b (question d) _ (kept d)
+    (rw (← free-slots b) (refused-step (length (part b)) b.loop.next (rest b) (some (rh d).before.before.before) (question d) (refused-is d)))
 
 pub overflow_add-used : goal.overflow_add-used
 overflow_add-used c =
-    omega (arith, (went (goal.at.overflow_add-used c).In-Advance).bits, left (rk (goal.at.overflow_add-used c).In-Advance) (went (goal.at.overflow_add-used c).In-Advance).taken (went (goal.at.overflow_add-used c).In-Advance).is)
+    let d = (goal.at.overflow_add-used c).In-Advance in
+    omega (arith, (went d).bits, left (rk d) (went d).taken (went d).is)
 
 pub loop-used-smaller : goal.loop-used-smaller
 loop-used-smaller c =
-    omega (arith, (went (goal.at.loop-used-smaller c).In-Advance).bits, left (rk (goal.at.loop-used-smaller c).In-Advance) (went (goal.at.loop-used-smaller c).In-Advance).taken (went (goal.at.loop-used-smaller c).In-Advance).is, (fine (rk (goal.at.loop-used-smaller c).In-Advance) (went (goal.at.loop-used-smaller c).In-Advance).taken (went (goal.at.loop-used-smaller c).In-Advance).is).long)
+    let d = (goal.at.loop-used-smaller c).In-Advance in
+    omega (arith, (went d).bits, left (rk d) (went d).taken (went d).is, (fine (rk d) (went d).taken (went d).is).long)
 
 pub loop-used-preserved : goal.loop-used-preserved
 loop-used-preserved c =
-    again (rk (goal.at.loop-used-preserved c).In-Advance) (went (goal.at.loop-used-preserved c).In-Advance).taken (went (goal.at.loop-used-preserved c).In-Advance).is _ (went (goal.at.loop-used-preserved c).In-Advance).bits _ (went (goal.at.loop-used-preserved c).In-Advance).next (later (rk (goal.at.loop-used-preserved c).In-Advance)) (later-is (rk (goal.at.loop-used-preserved c).In-Advance))
+    let d = (goal.at.loop-used-preserved c).In-Advance in
+    again (rk d) (went d).taken (went d).is _ (went d).bits _ (went d).next (later (rk d)) (later-is (rk d))
 
 pub shape_of-entries : goal.shape_of-entries
 shape_of-entries c = c.loop-used.invariant.2
 
 pub returns : goal.returns
 returns c =
-    let e : rest (goal.at.returns c).At-loop-used ≡ [] = drop_of_length-le (bits (goal.at.returns c).At-loop-used) {i = c.loop-used.used} c.loop-used-test.false in
-    stopped-at (goal.at.returns c).At-loop-used 0 c.loop-used.entries refl (rw e (ended (slots (goal.at.returns c).At-loop-used) c.loop-used.next))
+    let d = (goal.at.returns c).At-loop-used in
+    let e : rest d ≡ [] = drop_of_length-le (bits d) {i = c.loop-used.used} c.loop-used-test.false in
+    stopped-at d 0 c.loop-used.entries refl (rw e (ended (slots d) c.loop-used.next))

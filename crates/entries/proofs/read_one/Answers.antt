@@ -29,14 +29,16 @@ module _ (r : After-read_entry-step) where
 pub returns-in-Halt : goal.returns-in-Halt
 unfolding read_one one_due
 returns-in-Halt c =
+    let d = (goal.at.returns-in-Halt c).After-read_entry-step in
     let n = refusal_number c.in-Halt.refusal in
-    let h : halt n ≡ progress (due (goal.at.returns-in-Halt c).After-read_entry-step) (answer (goal.at.returns-in-Halt c).After-read_entry-step) = rw c.in-Halt.is at c.read_entry-step.ensures.0 in
-    one-halted (due (goal.at.returns-in-Halt c).After-read_entry-step) (buffer (goal.at.returns-in-Halt c).After-read_entry-step) c.read_entry-step.new.out (answer (goal.at.returns-in-Halt c).After-read_entry-step) n h c.read_entry-step.ensures.1
+    let h : halt n ≡ progress (due d) (answer d) = rw c.in-Halt.is at c.read_entry-step.ensures.0 in
+    one-halted (due d) (buffer d) c.read_entry-step.new.out (answer d) n h c.read_entry-step.ensures.1
 
 pub returns-in-Advance : goal.returns-in-Advance
 unfolding read_one one_due
 returns-in-Advance c =
+    let u = (goal.at.returns-in-Advance c).After-read_entry-step in
     let n = c.in-Advance.length in
     let d : Due = Minute c.in-Advance.minute c.in-Advance.leap in
-    let h : advance n d ≡ progress (due (goal.at.returns-in-Advance c).After-read_entry-step) (answer (goal.at.returns-in-Advance c).After-read_entry-step) = rw c.in-Advance.is at c.read_entry-step.ensures.0 in
-    one-advanced (due (goal.at.returns-in-Advance c).After-read_entry-step) (buffer (goal.at.returns-in-Advance c).After-read_entry-step) c.read_entry-step.new.out (answer (goal.at.returns-in-Advance c).After-read_entry-step) n d h c.read_entry-step.ensures.1
+    let h : advance n d ≡ progress (due u) (answer u) = rw c.in-Advance.is at c.read_entry-step.ensures.0 in
+    one-advanced (due u) (buffer u) c.read_entry-step.new.out (answer u) n d h c.read_entry-step.ensures.1

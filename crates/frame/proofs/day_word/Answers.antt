@@ -35,12 +35,14 @@ module _ (w : After-state_word-state) where
   next-is = w.before.next_word.ensures ∙ ap (λ (r : ℕ). get_or next_words r 0) (row_is w.before.before)
 
 pub day_part-requires : goal.day_part-requires
-day_part-requires c = (
-  omega (arith, state-is (goal.at.day_part-requires c).After-state_word-state, state-word-small (p (goal.at.day_part-requires c).After-state_word-state) (m (goal.at.day_part-requires c).After-state_word-state)),
-  omega (arith, notice-legal (p (goal.at.day_part-requires c).After-state_word-state) c.requires.0),
-  omega (arith, next-is (goal.at.day_part-requires c).After-state_word-state, next-word-small (p (goal.at.day_part-requires c).After-state_word-state) c.requires.0 (m (goal.at.day_part-requires c).After-state_word-state)),
-)
+day_part-requires c =
+    let d = (goal.at.day_part-requires c).After-state_word-state in (
+      omega (arith, state-is d, state-word-small (p d) (m d)),
+      omega (arith, notice-legal (p d) c.requires.0),
+      omega (arith, next-is d, next-word-small (p d) c.requires.0 (m d)),
+    )
 
 pub returns : goal.returns
 returns c =
-    c.day_part.ensures ∙ day-word-is (p (goal.at.returns c).After-state_word-state) c.args.day _ _ (state-is (goal.at.returns c).After-state_word-state) (next-is (goal.at.returns c).After-state_word-state)
+    let d = (goal.at.returns c).After-state_word-state in
+    c.day_part.ensures ∙ day-word-is (p d) c.args.day _ _ (state-is d) (next-is d)

@@ -12,7 +12,8 @@ range l = rw l.length.ensures (length-range l.before.before.args.plan l.before.b
 
 pub put_word-requires : goal.put_word-requires
 put_word-requires c =
-    (c.requires.0, (range (goal.at.put_word-requires c).After-length-length).0, (range (goal.at.put_word-requires c).After-length-length).1, rw c.length-length.ensures c.requires.1)
+    let d = (goal.at.put_word-requires c).After-length-length in
+    (c.requires.0, (range d).0, (range d).1, rw c.length-length.ensures c.requires.1)
 
 pub returns : goal.returns
 returns c =

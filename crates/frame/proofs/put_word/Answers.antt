@@ -27,6 +27,7 @@ slice_bounds-spread-end-2 c = sym (part_length (goal.at.slice_bounds-spread-end-
 
 pub returns : goal.returns
 returns c =
+    let d = (goal.at.returns c).Start in
     let w = c.args.word in
-    ap (λ (l : List ℕ). l ++ drop (n (goal.at.returns c).Start) (out (goal.at.returns c).Start))
-    (c.spread.ensures ∙ ap (λ (k : ℕ). bits k ((w * 2 ^ (n (goal.at.returns c).Start - min_frame)) % 2 ^ 64)) (part_length (goal.at.returns c).Start) ∙ word-bits w (n (goal.at.returns c).Start) c.requires.0 c.requires.1 c.requires.2)
+    ap (λ (l : List ℕ). l ++ drop (n d) (out d))
+    (c.spread.ensures ∙ ap (λ (k : ℕ). bits k ((w * 2 ^ (n d - min_frame)) % 2 ^ 64)) (part_length d) ∙ word-bits w (n d) c.requires.0 c.requires.1 c.requires.2)

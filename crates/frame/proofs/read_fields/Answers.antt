@@ -91,32 +91,40 @@ module _ (c : After-ends_right) where
 
 pub returns-in_default : goal.returns-in_default
 returns-in_default c =
+    let d = (goal.at.returns-in_default c).After-read_row-found in
     let none : row_of _ _ ≡ unassigned = unassigned-is _ _ (ap row_answer (sym c.in_default.is) ∙ c.read_row-found.ensures) in
-    rw (is (goal.at.returns-in_default c).After-read_row-found) (sym (no-10 (due (goal.at.returns-in_default c).After-read_row-found) (one (goal.at.returns-in_default c).After-read_row-found) (f (goal.at.returns-in_default c).After-read_row-found) (at (goal.at.returns-in_default c).After-read_row-found (reading (bits 31 (number (word_in (bits min_frame (x (goal.at.returns-in_default c).After-read_row-found))))))) (q9 (goal.at.returns-in_default c).After-read_row-found) (rw none (le_refl _))))
+    rw (is d) (sym (no-10 (due d) (one d) (f d) (at d (reading (bits 31 (number (word_in (bits min_frame (x d))))))) (q9 d) (rw none (le_refl _))))
 
 pub returns-then-minute-ge-MINUTES : goal.returns-then-minute-ge-MINUTES
 returns-then-minute-ge-MINUTES c =
-    rw (e-is (goal.at.returns-then-minute-ge-MINUTES c).After-decode-time) (sym (no-11 (due (r (goal.at.returns-then-minute-ge-MINUTES c).After-decode-time)) (one (r (goal.at.returns-then-minute-ge-MINUTES c).After-decode-time)) (f (r (goal.at.returns-then-minute-ge-MINUTES c).After-decode-time)) (e (goal.at.returns-then-minute-ge-MINUTES c).After-decode-time) (q9 (r (goal.at.returns-then-minute-ge-MINUTES c).After-decode-time)) (row_ok (goal.at.returns-then-minute-ge-MINUTES c).After-decode-time) c.if-minute-ge-MINUTES.true))
+    let d = (goal.at.returns-then-minute-ge-MINUTES c).After-decode-time in
+    rw (e-is d) (sym (no-11 (due (r d)) (one (r d)) (f (r d)) (e d) (q9 (r d)) (row_ok d) c.if-minute-ge-MINUTES.true))
 
 pub ends_right-requires : goal.ends_right-requires
 ends_right-requires c = rw c.length_for-length.ensures (seconds-long _ _)
 
 pub returns-then-is_due : goal.returns-then-is_due
 returns-then-is_due c =
-    let d = d' (goal.at.returns-then-is_due c).After-ends_right in
-    rw (e-is (goal.at.returns-then-is_due c).After-decode-time)
+    let u = (goal.at.returns-then-is_due c).After-ends_right in
+    let v = (goal.at.returns-then-is_due c).After-decode-time in
+    let d = d' u in
+    rw (e-is v)
     (ap entry
-    (same-entry (x (r (goal.at.returns-then-is_due c).After-decode-time)) d.decode.result (r (goal.at.returns-then-is_due c).After-decode-time).before.before.args.state c.length_for-length.result (row (k' (goal.at.returns-then-is_due c).After-decode-time)) c.notice_bit-notice.result c.echo_right-echo.result
-    c.length_for-length.ensures (row-found (k' (goal.at.returns-then-is_due c).After-decode-time)).0 (c.notice_bit-notice.ensures ∙ notice-bit (x (r (goal.at.returns-then-is_due c).After-decode-time))) c.echo_right-echo.ensures)
-    ∙ sym (yes-14 (due (r (goal.at.returns-then-is_due c).After-decode-time)) (one (r (goal.at.returns-then-is_due c).After-decode-time)) (f (r (goal.at.returns-then-is_due c).After-decode-time)) (e (goal.at.returns-then-is_due c).After-decode-time) (q9 (r (goal.at.returns-then-is_due c).After-decode-time)) (row_ok (goal.at.returns-then-is_due c).After-decode-time) c.if-minute-ge-MINUTES.false (sym (q13 (goal.at.returns-then-is_due c).After-ends_right) ∙ c.if-ends_right.true) (sym c.is_due.ensures ∙ c.if-is_due.true)))
+    (same-entry (x (r v)) d.decode.result (r v).before.before.args.state c.length_for-length.result (row (k' v)) c.notice_bit-notice.result c.echo_right-echo.result
+    c.length_for-length.ensures (row-found (k' v)).0 (c.notice_bit-notice.ensures ∙ notice-bit (x (r v))) c.echo_right-echo.ensures)
+    ∙ sym (yes-14 (due (r v)) (one (r v)) (f (r v)) (e v) (q9 (r v)) (row_ok v) c.if-minute-ge-MINUTES.false (sym (q13 u) ∙ c.if-ends_right.true) (sym c.is_due.ensures ∙ c.if-is_due.true)))
 
 pub returns-then-ends_right : goal.returns-then-ends_right
 returns-then-ends_right c =
-    let d = d' (goal.at.returns-then-ends_right c).After-ends_right in
-    rw (e-is (goal.at.returns-then-ends_right c).After-decode-time)
-    (sym (no-14 (due (r (goal.at.returns-then-ends_right c).After-decode-time)) (one (r (goal.at.returns-then-ends_right c).After-decode-time)) (f (r (goal.at.returns-then-ends_right c).After-decode-time)) (e (goal.at.returns-then-ends_right c).After-decode-time) (q9 (r (goal.at.returns-then-ends_right c).After-decode-time)) (row_ok (goal.at.returns-then-ends_right c).After-decode-time) c.if-minute-ge-MINUTES.false (sym (q13 (goal.at.returns-then-ends_right c).After-ends_right) ∙ c.if-ends_right.true) (sym c.is_due.ensures ∙ c.if-is_due.false)))
+    let u = (goal.at.returns-then-ends_right c).After-ends_right in
+    let v = (goal.at.returns-then-ends_right c).After-decode-time in
+    let d = d' u in
+    rw (e-is v)
+    (sym (no-14 (due (r v)) (one (r v)) (f (r v)) (e v) (q9 (r v)) (row_ok v) c.if-minute-ge-MINUTES.false (sym (q13 u) ∙ c.if-ends_right.true) (sym c.is_due.ensures ∙ c.if-is_due.false)))
 
 pub returns : goal.returns
 returns c =
-    let d = d' (goal.at.returns c).After-ends_right in
-    rw (e-is (goal.at.returns c).After-decode-time) (sym (no-13 (due (r (goal.at.returns c).After-decode-time)) (one (r (goal.at.returns c).After-decode-time)) (f (r (goal.at.returns c).After-decode-time)) (e (goal.at.returns c).After-decode-time) (q9 (r (goal.at.returns c).After-decode-time)) (row_ok (goal.at.returns c).After-decode-time) c.if-minute-ge-MINUTES.false (sym (q13 (goal.at.returns c).After-ends_right) ∙ c.if-ends_right.false)))
+    let u = (goal.at.returns c).After-ends_right in
+    let v = (goal.at.returns c).After-decode-time in
+    let d = d' u in
+    rw (e-is v) (sym (no-13 (due (r v)) (one (r v)) (f (r v)) (e v) (q9 (r v)) (row_ok v) c.if-minute-ge-MINUTES.false (sym (q13 u) ∙ c.if-ends_right.false)))

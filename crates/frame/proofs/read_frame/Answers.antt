@@ -30,11 +30,13 @@ read-requires c = front (goal.at.read-requires c).Start
 
 pub returns-then-sync-eq-MESSAGE_SYNC : goal.returns-then-sync-eq-MESSAGE_SYNC
 returns-then-sync-eq-MESSAGE_SYNC c =
-    rw (told-8 c.args.due c.args.alone (f (goal.at.returns-then-sync-eq-MESSAGE_SYNC c).Start) c.requires.0 c.requires.1 (sync-is (goal.at.returns-then-sync-eq-MESSAGE_SYNC c).Start ∙ c.if-sync-eq-MESSAGE_SYNC.true)) c.read.ensures
+    let d = (goal.at.returns-then-sync-eq-MESSAGE_SYNC c).Start in
+    rw (told-8 c.args.due c.args.alone (f d) c.requires.0 c.requires.1 (sync-is d ∙ c.if-sync-eq-MESSAGE_SYNC.true)) c.read.ensures
 
 pub returns-then-sync-ne-SYNC : goal.returns-then-sync-ne-SYNC
 returns-then-sync-ne-SYNC c =
-    sym (no-8 c.args.due c.args.alone (f (goal.at.returns-then-sync-ne-SYNC c).Start) c.requires.0 c.requires.1 (rw (sync-is (goal.at.returns-then-sync-ne-SYNC c).Start) c.if-sync-ne-SYNC.true) (rw (sync-is (goal.at.returns-then-sync-ne-SYNC c).Start) c.if-sync-eq-MESSAGE_SYNC.false))
+    let d = (goal.at.returns-then-sync-ne-SYNC c).Start in
+    sym (no-8 c.args.due c.args.alone (f d) c.requires.0 c.requires.1 (rw (sync-is d) c.if-sync-ne-SYNC.true) (rw (sync-is d) c.if-sync-eq-MESSAGE_SYNC.false))
 
 -- the state word's answer
 module _ (a : After-read_state-answer) where
@@ -55,7 +57,8 @@ module _ (a : After-read_state-answer) where
 
 pub read_fields-requires : goal.read_fields-requires
 read_fields-requires c =
-    (front (b (goal.at.read_fields-requires c).After-read_state-answer), legal-is c.in-Legal.state _ (ap state_answer (sym c.in-Legal.is) ∙ state-is (goal.at.read_fields-requires c).After-read_state-answer))
+    let d = (goal.at.read_fields-requires c).After-read_state-answer in
+    (front (b d), legal-is c.in-Legal.state _ (ap state_answer (sym c.in-Legal.is) ∙ state-is d))
 
 pub returns-in-Legal : goal.returns-in-Legal
 returns-in-Legal c =
@@ -63,4 +66,5 @@ returns-in-Legal c =
 
 pub returns-in-Illegal : goal.returns-in-Illegal
 returns-in-Illegal c =
-    sym (time-is (goal.at.returns-in-Illegal c).After-read_state-answer ∙ no_9 (b (goal.at.returns-in-Illegal c).After-read_state-answer).args.due (b (goal.at.returns-in-Illegal c).After-read_state-answer).args.alone (f (b (goal.at.returns-in-Illegal c).After-read_state-answer)) _ (illegal-is _ (ap state_answer (sym c.in-Illegal.is) ∙ state-is (goal.at.returns-in-Illegal c).After-read_state-answer)))
+    let d = (goal.at.returns-in-Illegal c).After-read_state-answer in
+    sym (time-is d ∙ no_9 (b d).args.due (b d).args.alone (f (b d)) _ (illegal-is _ (ap state_answer (sym c.in-Illegal.is) ∙ state-is d)))

@@ -12,7 +12,8 @@ facts s = real s.args.c s.requires
 
 pub digits_line-requires : goal.digits_line-requires
 digits_line-requires c =
-    omega (arith, facts (goal.at.digits_line-requires c).Start, second-high c.args.c (facts (goal.at.digits_line-requires c).Start))
+    let d = (goal.at.digits_line-requires c).Start in
+    omega (arith, facts d, second-high c.args.c (facts d))
 
 pub digits_line-requires-2 : goal.digits_line-requires-2
 digits_line-requires-2 c = omega (arith, facts (goal.at.digits_line-requires-2 c).Start)

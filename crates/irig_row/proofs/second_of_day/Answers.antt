@@ -21,7 +21,8 @@ overflow_mul-result-2 c = omega (arith, facts (goal.at.overflow_mul-result-2 c).
 
 pub overflow_add-result-2 : goal.overflow_add-result-2
 overflow_add-result-2 c =
-    omega (arith, facts (goal.at.overflow_add-result-2 c).Start, second-high c.args.c (facts (goal.at.overflow_add-result-2 c).Start))
+    let d = (goal.at.overflow_add-result-2 c).Start in
+    omega (arith, facts d, second-high c.args.c (facts d))
 
 pub returns : goal.returns
 unfolding second_of_day

@@ -8,4 +8,4 @@ pub returns : goal.returns
 returns c =
     let s = c.part_start-start in
     let a = c.args in
-    cut-part a.line.now s.result a.k c.find-end.result s.ensures.1 c.find-end.ensures.0
+    cut-part a.line.now s.result a.k c.find-end.result s.ensures.1 c.find-end.ensures.value

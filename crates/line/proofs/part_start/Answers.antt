@@ -1,5 +1,4 @@
 use Prim.Native.Nat.{◌-◌, ◌≤◌}
-use mathlib.Core.Logic.{⊎_elim}
 use mathlib.Core.Path.{◌≡◌, refl}
 use native.Mathlib.Numerals.{add-one}
 use native.Mathlib.Omega.{arith}
@@ -7,6 +6,7 @@ use lib.ListN.{length, drop}
 use Rattle.line.specs.Line.{behind_spaces}
 use Rattle.line.proofs.Parts.{skip-space, skip-rest}
 use Rattle.line.proofs.part_start.Goals as goal
+use Rattle.line.proofs.part_start.Goals.{then-space-line, else-space-line}
 
 pub loop-i-init : goal.loop-i-init
 unfolding behind_spaces
@@ -17,10 +17,11 @@ loop-i-preserved c =
     let l = c.loop-i in
     let s = c.args.line.now in
     let f = c.find-space in
-    ⊎_elim
-    (λ w. (omega arith, omega arith, rw (w.1, add-one l.i) (skip-space s l.at l.i f.result l.invariant.2 f.ensures.0)))
-    (λ w. (omega arith, omega arith, rw (w.1, add-one l.i) (skip-rest s l.at l.i f.result l.invariant.2 f.ensures.0 w.0.left)))
-    c.if-space-line.branch
+    elim c.if-space-line.branch [
+      | then-space-line w ↦ (omega arith, omega arith, rw (w.at-is, add-one l.i) (skip-space s l.at l.i f.result l.invariant.2 f.ensures.value))
+      | else-space-line w ↦
+          (omega arith, omega arith, rw (w.at-is, add-one l.i) (skip-rest s l.at l.i f.result l.invariant.2 f.ensures.value w.if-space-line.false))
+    ]
 
 pub returns : goal.returns
 returns c =

@@ -10,23 +10,20 @@ use Rattle.messages.specs.Walk.{all_from}
 use Rattle.messages.proofs.Laws.{none_from, some-from, no_bytes, not-whole, all_are, many, few}
 use Rattle.messages.proofs.Minutes.{end, none-rise, early, past, large, next}
 use Rattle.messages.proofs.is_legal.Goals as goal
-use Rattle.messages.proofs.is_legal.Goals.{At-loop-k, In-loop-k}
+use Rattle.messages.proofs.is_legal.Goals.{In-loop-k}
 
 module _ (c : In-loop-k) where
-  abbrev a : At-loop-k
-  a = c.before
-
   abbrev s : List ℕ
-  s = a.before.before.before.before.before.args.bytes.now
+  s = c.args.bytes.now
 
   abbrev m : Message
-  m = message_at s a.loop.k
+  m = message_at s c.loop-k.k
 
   abbrev rest : List Message
-  rest = all_from s (suc a.loop.k)
+  rest = all_from s (suc c.loop-k.k)
 
-  is : rising a.loop.from (m ∷ rest) ≡ legal_messages (messages_in s)
-  is = ap (rising a.loop.from) (sym (some-from s a.loop.k (omega arith))) ∙ a.loop.inv.2
+  is : rising c.loop-k.from (m ∷ rest) ≡ legal_messages (messages_in s)
+  is = ap (rising c.loop-k.from) (sym (some-from s c.loop-k.k (omega arith))) ∙ c.loop-k.inv.2
 
 pub returns-then-bytes-eq0 : goal.returns-then-bytes-eq0
 returns-then-bytes-eq0 c = sym (no_bytes c.args.bytes.now (omega arith))
@@ -45,23 +42,27 @@ loop-k-init c =
 
 pub returns-then-minute-from : goal.returns-then-minute-from
 returns-then-minute-from c =
-    sym (early (a (goal.at.returns-then-minute-from c).In-loop-k).loop.from (m (goal.at.returns-then-minute-from c).In-loop-k) (rest (goal.at.returns-then-minute-from c).In-loop-k) (omega (arith, c.minute_at-minute.ensures))) ∙ is (goal.at.returns-then-minute-from c).In-loop-k
+    let d = (goal.at.returns-then-minute-from c).In-loop-k in
+    sym (early c.loop-k.from (m d) (rest d) (omega (arith, c.minute_at-minute.ensures))) ∙ is d
 
 pub returns-then-minute-ge-MINUTES : goal.returns-then-minute-ge-MINUTES
 returns-then-minute-ge-MINUTES c =
-    sym (past (a (goal.at.returns-then-minute-ge-MINUTES c).In-loop-k).loop.from (m (goal.at.returns-then-minute-ge-MINUTES c).In-loop-k) (rest (goal.at.returns-then-minute-ge-MINUTES c).In-loop-k) (omega (arith, c.minute_at-minute.ensures))) ∙ is (goal.at.returns-then-minute-ge-MINUTES c).In-loop-k
+    let d = (goal.at.returns-then-minute-ge-MINUTES c).In-loop-k in
+    sym (past c.loop-k.from (m d) (rest d) (omega (arith, c.minute_at-minute.ensures))) ∙ is d
 
 pub returns-then-payload_at-ge-DATA_END : goal.returns-then-payload_at-ge-DATA_END
 returns-then-payload_at-ge-DATA_END c =
-    sym (large (a (goal.at.returns-then-payload_at-ge-DATA_END c).In-loop-k).loop.from (m (goal.at.returns-then-payload_at-ge-DATA_END c).In-loop-k) (rest (goal.at.returns-then-payload_at-ge-DATA_END c).In-loop-k) (omega (arith, c.payload_at.ensures))) ∙ is (goal.at.returns-then-payload_at-ge-DATA_END c).In-loop-k
+    let d = (goal.at.returns-then-payload_at-ge-DATA_END c).In-loop-k in
+    sym (large c.loop-k.from (m d) (rest d) (omega (arith, c.payload_at.ensures))) ∙ is d
 
 pub loop-k-preserved : goal.loop-k-preserved
 loop-k-preserved c =
+    let d = (goal.at.loop-k-preserved c).In-loop-k in
     let x = c.minute_at-minute.ensures in
-    let low : (a (goal.at.loop-k-preserved c).In-loop-k).loop.from ≤ (m (goal.at.loop-k-preserved c).In-loop-k).minute = omega arith in
-    let high : (m (goal.at.loop-k-preserved c).In-loop-k).minute < end = omega arith in
-    let small : (m (goal.at.loop-k-preserved c).In-loop-k).payload < payload_limit = omega (arith, c.payload_at.ensures) in
-    (omega arith, refl, rw (x, add-one (a (goal.at.loop-k-preserved c).In-loop-k).loop.k) (sym (next (a (goal.at.loop-k-preserved c).In-loop-k).loop.from (m (goal.at.loop-k-preserved c).In-loop-k) (rest (goal.at.loop-k-preserved c).In-loop-k) low high small) ∙ is (goal.at.loop-k-preserved c).In-loop-k))
+    let low : c.loop-k.from ≤ (m d).minute = omega arith in
+    let high : (m d).minute < end = omega arith in
+    let small : (m d).payload < payload_limit = omega (arith, c.payload_at.ensures) in
+    (omega arith, refl, rw (x, add-one c.loop-k.k) (sym (next c.loop-k.from (m d) (rest d) low high small) ∙ is d))
 
 pub returns : goal.returns
 returns c =

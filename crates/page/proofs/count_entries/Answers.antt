@@ -42,9 +42,6 @@ module _ (r : After-read_from-part) where
 
 -- where the space is full
 module _ (c : After-struct_known-in-Refused-3-1) where
-  abbrev rf : After-read_from-part
-  rf = c.before.before.before.before.before.before.before.before
-
   full : (part (a rf).loop.due (rest (a rf))).refusal ≡ 5
   full =
       out-of-space (a rf).loop.count (a rf).loop.due (rest (a rf)) _ _ rf.read-from.result (got rf) (read_all (bits (a rf))) (a rf).loop.inv.3 _
@@ -65,12 +62,14 @@ overflow_add-result c = omega (arith, few (goal.at.overflow_add-result c).After-
 
 pub returns-in-Complete : goal.returns-in-Complete
 returns-in-Complete c =
-    counted-complete (a (goal.at.returns-in-Complete c).After-read_from-part).loop.count (a (goal.at.returns-in-Complete c).After-read_from-part).loop.due (rest (a (goal.at.returns-in-Complete c).After-read_from-part)) _ _ c.read_from-part.result (got (goal.at.returns-in-Complete c).After-read_from-part) (read_all (bits (a (goal.at.returns-in-Complete c).After-read_from-part))) (a (goal.at.returns-in-Complete c).After-read_from-part).loop.invariant.3
+    let d = (goal.at.returns-in-Complete c).After-read_from-part in
+    counted-complete (a d).loop.count (a d).loop.due (rest (a d)) _ _ c.read_from-part.result (got d) (read_all (bits (a d))) (a d).loop.invariant.3
     c.in-Complete.is
 
 pub returns-then-part-lt-PART_ENTRIES : goal.returns-then-part-lt-PART_ENTRIES
 returns-then-part-lt-PART_ENTRIES c =
-    counted-refusal (a (goal.at.returns-then-part-lt-PART_ENTRIES c).After-read_from-part).loop.count (a (goal.at.returns-then-part-lt-PART_ENTRIES c).After-read_from-part).loop.due (rest (a (goal.at.returns-then-part-lt-PART_ENTRIES c).After-read_from-part)) _ _ c.read_from-part.result (got (goal.at.returns-then-part-lt-PART_ENTRIES c).After-read_from-part) (read_all (bits (a (goal.at.returns-then-part-lt-PART_ENTRIES c).After-read_from-part))) (a (goal.at.returns-then-part-lt-PART_ENTRIES c).After-read_from-part).loop.invariant.3 _
+    let d = (goal.at.returns-then-part-lt-PART_ENTRIES c).After-read_from-part in
+    counted-refusal (a d).loop.count (a d).loop.due (rest (a d)) _ _ c.read_from-part.result (got d) (read_all (bits (a d))) (a d).loop.invariant.3 _
     c.in-Refused.is (omega arith)
 
 pub overflow_add-count : goal.overflow_add-count
@@ -84,14 +83,16 @@ loop-used-smaller c =
     omega (arith, few (goal.at.loop-used-smaller c).After-read_from-part, more (goal.at.loop-used-smaller c).After-struct_known-in-Refused-3-1)
 
 pub loop-used-preserved : goal.loop-used-preserved
-loop-used-preserved c = (
-  omega (arith, few (goal.at.loop-used-preserved c).After-read_from-part),
-  omega (arith, few (goal.at.loop-used-preserved c).After-read_from-part),
-  same-space (goal.at.loop-used-preserved c).After-read_from-part,
-  rw (← drop-drop c.read_from-part.result.used (a (goal.at.loop-used-preserved c).After-read_from-part).loop.used (bits (a (goal.at.loop-used-preserved c).After-read_from-part)))
-      (counting-on (a (goal.at.loop-used-preserved c).After-read_from-part).loop.count (a (goal.at.loop-used-preserved c).After-read_from-part).loop.due (rest (a (goal.at.loop-used-preserved c).After-read_from-part)) _ _ c.read_from-part.result (got (goal.at.loop-used-preserved c).After-read_from-part) (read_all (bits (a (goal.at.loop-used-preserved c).After-read_from-part))) (a (goal.at.loop-used-preserved c).After-read_from-part).loop.invariant.3 (full (goal.at.loop-used-preserved c).After-struct_known-in-Refused-3-1)),
-)
+loop-used-preserved c =
+    let d = (goal.at.loop-used-preserved c).After-read_from-part in (
+      omega (arith, few d),
+      omega (arith, few d),
+      same-space d,
+      rw (← drop-drop c.read_from-part.result.used (a d).loop.used (bits (a d)))
+          (counting-on (a d).loop.count (a d).loop.due (rest (a d)) _ _ c.read_from-part.result (got d) (read_all (bits (a d))) (a d).loop.invariant.3 (full (goal.at.loop-used-preserved c).After-struct_known-in-Refused-3-1)),
+    )
 
 pub returns : goal.returns
 returns c =
-    counted-all c.loop-used.count c.loop-used.due (rest (goal.at.returns c).At-loop-used) (read_all (bits (goal.at.returns c).At-loop-used)) (drop_of_length-le (bits (goal.at.returns c).At-loop-used) {i = c.loop-used.used} c.loop-used-test.false) c.loop-used.invariant.3
+    let d = (goal.at.returns c).At-loop-used in
+    counted-all c.loop-used.count c.loop-used.due (rest d) (read_all (bits d)) (drop_of_length-le (bits d) {i = c.loop-used.used} c.loop-used-test.false) c.loop-used.invariant.3

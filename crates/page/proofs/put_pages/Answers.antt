@@ -51,48 +51,45 @@ module _ (a : At-loop-used) where
 
 -- after a page was put
 module _ (c : After-struct_known-1) where
-  abbrev at : At-loop-used
-  at = c.before.before.before.before.before.before.before
-
-  left : at.loop.used < length (bits at)
+  left : c.loop-used.used < length (bits at)
   left = omega arith
 
-  after : RestAfter 50 at.loop.due (rest at) c.put_page-rest.result
+  after : RestAfter 50 c.loop-used.due (rest at) c.put_page-rest.result
   after =
-      subst (RestAfter 50 at.loop.due (rest at))
-      (sym (c.put_page-rest.ensures.0 ∙ ap (rest_after at.loop.due) (tail (bits at) at.loop.used)))
-      (rest-after at.loop.due (rest at) (so_far at).going.accepted)
+      subst (RestAfter 50 c.loop-used.due (rest at))
+      (sym (c.put_page-rest.ensures.0 ∙ ap (rest_after c.loop-used.due) (tail (bits at) c.loop-used.used)))
+      (rest-after c.loop-used.due (rest at) (so_far at).going.accepted)
 
   page-is : c.put_page-rest.new.out
-      ≡ page at.loop.number (map line (page_entries at.loop.due (rest at)))
-      ++ drop 2184 (take (length at.loop.out - at.loop.at) (drop at.loop.at at.loop.out))
+      ≡ page c.loop-used.number (map line (page_entries c.loop-used.due (rest at)))
+      ++ drop 2184 (take (length c.loop-used.out - c.loop-used.at) (drop c.loop-used.at c.loop-used.out))
   page-is =
       c.put_page-rest.ensures.1
-      ∙ ap (λ (f : List ℕ). page at.loop.number (map line (page_entries at.loop.due f))
-      ++ drop 2184 (take (length at.loop.out - at.loop.at) (drop at.loop.at at.loop.out))) (tail (bits at) at.loop.used)
+      ∙ ap (λ (f : List ℕ). page c.loop-used.number (map line (page_entries c.loop-used.due f))
+      ++ drop 2184 (take (length c.loop-used.out - c.loop-used.at) (drop c.loop-used.at c.loop-used.out))) (tail (bits at) c.loop-used.used)
 
-  bits_left : (at.loop.used + c.put_page-rest.result.used ≤ length (bits at)) × (0 < c.put_page-rest.result.used)
-  bits_left = (omega (arith, after.within, length-drop at.loop.used (bits at), at.loop.inv.0), after.some (omega arith) (some at left))
+  bits_left : (c.loop-used.used + c.put_page-rest.result.used ≤ length (bits at)) × (0 < c.put_page-rest.result.used)
+  bits_left = (omega (arith, after.within, length-drop c.loop-used.used (bits at), c.loop-used.inv.0), after.some (omega arith) (some at left))
 
-  next : done at + 1 ≡ at.loop.number + 1 - 1
-  next = omega (arith, at.loop.inv.1)
+  next : done at + 1 ≡ c.loop-used.number + 1 - 1
+  next = omega (arith, c.loop-used.inv.1)
 
   -- the buffer after it
   abbrev out-after : List ℕ
   out-after =
-      take at.loop.at at.loop.out
-      ++ (c.put_page-rest.new.out ++ drop (length at.loop.out - at.loop.at) (drop at.loop.at at.loop.out))
+      take c.loop-used.at c.loop-used.out
+      ++ (c.put_page-rest.new.out ++ drop (length c.loop-used.out - c.loop-used.at) (drop c.loop-used.at c.loop-used.out))
 
-  page-put : Put (pages_from (done at + 1) 1 (map line (entries_of (bits at)))) (buffer at) out-after (at.loop.at + 2184)
+  page-put : Put (pages_from (done at + 1) 1 (map line (entries_of (bits at)))) (buffer at) out-after (c.loop-used.at + 2184)
   page-put =
-      put-next-page (done at) at.loop.due (rest at) (entries_of (bits at)) (so_far at) (some at left) at.loop.number at.loop.at (buffer at) at.loop.out _
-      (omega (arith, at.loop.inv.1)) (omega (arith, small at left)) (put at) (room at left) page-is
+      put-next-page (done at) c.loop-used.due (rest at) (entries_of (bits at)) (so_far at) (some at left) c.loop-used.number c.loop-used.at (buffer at) c.loop-used.out _
+      (omega (arith, c.loop-used.inv.1)) (omega (arith, small at left)) (put at) (room at left) page-is
 
   printed : Printing (done at + 1) c.put_page-rest.result.due
-      (drop (at.loop.used + c.put_page-rest.result.used) (bits at)) (entries_of (bits at))
+      (drop (c.loop-used.used + c.put_page-rest.result.used) (bits at)) (entries_of (bits at))
   printed =
-      printing-next (done at) at.loop.due (rest at) (entries_of (bits at)) (so_far at) (some at left) c.put_page-rest.result _ after
-      (sym (drop-drop c.put_page-rest.result.used at.loop.used (bits at)))
+      printing-next (done at) c.loop-used.due (rest at) (entries_of (bits at)) (so_far at) (some at left) c.put_page-rest.result _ after
+      (sym (drop-drop c.put_page-rest.result.used c.loop-used.used (bits at)))
 
 pub loop-used-init : goal.loop-used-init
 unfolding pages_from
@@ -114,7 +111,8 @@ slice_bounds-put_page-start-in-loop-used c =
 
 pub put_page-rest-requires : goal.put_page-rest-requires
 put_page-rest-requires c =
-    (ap (λ (f : List ℕ). (read_on c.loop-used.due f).refusal) (tail (bits (goal.at.put_page-rest-requires c).At-loop-used) c.loop-used.used) ∙ (so_far (goal.at.put_page-rest-requires c).At-loop-used).going.accepted, room c (omega arith))
+    let d = (goal.at.put_page-rest-requires c).At-loop-used in
+    (ap (λ (f : List ℕ). (read_on c.loop-used.due f).refusal) (tail (bits d) c.loop-used.used) ∙ (so_far d).going.accepted, room c (omega arith))
 
 pub overflow_add-used : goal.overflow_add-used
 overflow_add-used c =
@@ -122,29 +120,31 @@ overflow_add-used c =
 
 pub overflow_add-at : goal.overflow_add-at
 overflow_add-at c =
-    omega (arith, small (at (goal.at.overflow_add-at c).After-struct_known-1) (left (goal.at.overflow_add-at c).After-struct_known-1), (at (goal.at.overflow_add-at c).After-struct_known-1).loop.invariant.2)
+    omega (arith, small (at c) (left (goal.at.overflow_add-at c).After-struct_known-1), c.loop-used.invariant.2)
 
 pub overflow_add-number : goal.overflow_add-number
 overflow_add-number c =
-    omega (arith, small (at (goal.at.overflow_add-number c).After-struct_known-1) (left (goal.at.overflow_add-number c).After-struct_known-1))
+    omega (arith, small (at c) (left (goal.at.overflow_add-number c).After-struct_known-1))
 
 pub loop-used-smaller : goal.loop-used-smaller
 loop-used-smaller c = omega (arith, bits_left (goal.at.loop-used-smaller c).After-struct_known-1)
 
 pub loop-used-preserved : goal.loop-used-preserved
-loop-used-preserved c = (
-  (bits_left (goal.at.loop-used-preserved c).After-struct_known-1).0,
-  omega arith,
-  omega (arith, (at (goal.at.loop-used-preserved c).After-struct_known-1).loop.invariant.2, (at (goal.at.loop-used-preserved c).After-struct_known-1).loop.invariant.1),
-  subst (λ (k : ℕ). Printing k c.put_page-rest.result.due
-      (drop ((at (goal.at.loop-used-preserved c).After-struct_known-1).loop.used + c.put_page-rest.result.used) (bits (at (goal.at.loop-used-preserved c).After-struct_known-1))) (entries_of (bits (at (goal.at.loop-used-preserved c).After-struct_known-1)))) (next (goal.at.loop-used-preserved c).After-struct_known-1) (printed (goal.at.loop-used-preserved c).After-struct_known-1),
-  subst (λ (k : ℕ). Put (pages_from k 1 (map line (entries_of (bits (at (goal.at.loop-used-preserved c).After-struct_known-1))))) (buffer (at (goal.at.loop-used-preserved c).After-struct_known-1)) (out-after (goal.at.loop-used-preserved c).After-struct_known-1) ((at (goal.at.loop-used-preserved c).After-struct_known-1).loop.at + 2184)) (next (goal.at.loop-used-preserved c).After-struct_known-1) (page-put (goal.at.loop-used-preserved c).After-struct_known-1),
-)
+loop-used-preserved c =
+    let d = (goal.at.loop-used-preserved c).After-struct_known-1 in (
+      (bits_left d).0,
+      omega arith,
+      omega (arith, c.loop-used.invariant.2, c.loop-used.invariant.1),
+      subst (λ (k : ℕ). Printing k c.put_page-rest.result.due
+          (drop (c.loop-used.used + c.put_page-rest.result.used) (bits (at c))) (entries_of (bits (at c)))) (next d) (printed d),
+      subst (λ (k : ℕ). Put (pages_from k 1 (map line (entries_of (bits (at c))))) (buffer (at c)) (out-after d) (c.loop-used.at + 2184)) (next d) (page-put d),
+    )
 
 pub shape_of-out : goal.shape_of-out
 shape_of-out c = put-length (put (goal.at.shape_of-out c).At-loop-used)
 
 pub returns : goal.returns
 returns c =
-    let e = printed-all (done (goal.at.returns c).At-loop-used) c.loop-used.due (rest (goal.at.returns c).At-loop-used) (entries_of (bits (goal.at.returns c).At-loop-used)) (drop_of_length-le (bits (goal.at.returns c).At-loop-used) {i = c.loop-used.used} c.loop-used-test.false) (so_far (goal.at.returns c).At-loop-used) in
-    (put (goal.at.returns c).At-loop-used).is ∙ rw (← e, (put (goal.at.returns c).At-loop-used).size)
+    let d = (goal.at.returns c).At-loop-used in
+    let e = printed-all (done d) c.loop-used.due (rest d) (entries_of (bits d)) (drop_of_length-le (bits d) {i = c.loop-used.used} c.loop-used-test.false) (so_far d) in
+    (put d).is ∙ rw (← e, (put d).size)

@@ -40,20 +40,23 @@ slice_bounds-put_line_at-start c = within (goal.at.slice_bounds-put_line_at-star
 
 pub put_line_at-requires : goal.put_line_at-requires
 put_line_at-requires c =
-    (omega arith, c.requires.0, fit (goal.at.put_line_at-requires c).At-loop-i, room (goal.at.put_line_at-requires c).At-loop-i (omega arith))
+    let d = (goal.at.put_line_at-requires c).At-loop-i in
+    (omega arith, c.requires.0, fit d, room d (omega arith))
 
 pub loop-i-preserved : goal.loop-i-preserved
-loop-i-preserved c = (
-  omega arith,
-  put_next 10 (es (goal.at.loop-i-preserved c).At-loop-i) (few (goal.at.loop-i-preserved c).At-loop-i) (fit (goal.at.loop-i-preserved c).At-loop-i) c.loop-i.i c.args.out.now c.loop-i.out c.put_line_at.new.out
-      (omega arith) c.loop-i.invariant.1 (room (goal.at.loop-i-preserved c).At-loop-i (omega arith)) c.put_line_at.ensures,
-)
+loop-i-preserved c =
+    let d = (goal.at.loop-i-preserved c).At-loop-i in (
+      omega arith,
+      put_next 10 (es d) (few d) (fit d) c.loop-i.i c.args.out.now c.loop-i.out c.put_line_at.new.out
+          (omega arith) c.loop-i.invariant.1 (room d (omega arith)) c.put_line_at.ensures,
+    )
 
 pub shape_of-out : goal.shape_of-out
 shape_of-out c = put-length c.loop-i.invariant.1
 
 pub returns : goal.returns
 returns c =
+    let d = (goal.at.returns c).At-loop-i in
     let n : c.loop-i.i ≡ 10 = omega arith in
-    let p : Put (up_to 10 (es (goal.at.returns c).At-loop-i) 10) c.args.out.now c.loop-i.out 420 = rw n at c.loop-i.invariant.1 in
-    p.is ∙ ap (λ (w : List ℕ). w ++ drop 420 c.args.out.now) (lines-whole 10 (es (goal.at.returns c).At-loop-i) (few (goal.at.returns c).At-loop-i) (fit (goal.at.returns c).At-loop-i))
+    let p : Put (up_to 10 (es d) 10) c.args.out.now c.loop-i.out 420 = rw n at c.loop-i.invariant.1 in
+    p.is ∙ ap (λ (w : List ℕ). w ++ drop 420 c.args.out.now) (lines-whole 10 (es d) (few d) (fit d))

@@ -103,7 +103,8 @@ overflow_mul-end c = omega (arith, (front-is (goal.at.overflow_mul-end c).After-
 
 pub slice_bounds-space-end : goal.slice_bounds-space-end
 slice_bounds-space-end c =
-    omega (arith, (front-is (goal.at.slice_bounds-space-end c).After-read_from-part).1, same-space (goal.at.slice_bounds-space-end c).After-read_from-part)
+    let d = (goal.at.slice_bounds-space-end c).After-read_from-part in
+    omega (arith, (front-is d).1, same-space d)
 
 pub slice_bounds-put_part-end : goal.slice_bounds-put_part-end
 slice_bounds-put_part-end c =
@@ -118,26 +119,28 @@ slice_bounds-put_part-start c =
     within (a (goal.at.slice_bounds-put_part-start c).After-read_from-part)
 
 pub put_part-requires : goal.put_part-requires
-put_part-requires c = (
-  omega (arith, front_length (goal.at.put_part-requires c).After-read_from-part),
-  omega (arith, front_length (goal.at.put_part-requires c).After-read_from-part, (front-is (goal.at.put_part-requires c).After-read_from-part).1),
-  fits_in _ (front (goal.at.put_part-requires c).After-read_from-part) (front-is (goal.at.put_part-requires c).After-read_from-part).0 (each_fits 10 (a (goal.at.put_part-requires c).After-read_from-part).loop.next (left (a (goal.at.put_part-requires c).After-read_from-part))),
-  room (a (goal.at.put_part-requires c).After-read_from-part) (omega arith),
-)
+put_part-requires c =
+    let d = (goal.at.put_part-requires c).After-read_from-part in (
+      omega (arith, front_length d),
+      omega (arith, front_length d, (front-is d).1),
+      fits_in _ (front d) (front-is d).0 (each_fits 10 (a d).loop.next (left (a d))),
+      room (a d) (omega arith),
+    )
 
 pub overflow_add-used : goal.overflow_add-used
 overflow_add-used c = omega (arith, bits_left (goal.at.overflow_add-used c).After-read_from-part)
 
 pub loop-i-preserved : goal.loop-i-preserved
 loop-i-preserved c =
-    let b = a (goal.at.loop-i-preserved c).After-read_from-part in
+    let d = (goal.at.loop-i-preserved c).After-read_from-part in
+    let b = a d in
     let i = b.loop.i in
-    let more = rest_more (i * 10) (due b) (bits b) b.before.before.before.before.pre.0 10 _ _ _ _ b.loop.inv.2 (got (goal.at.loop-i-preserved c).After-read_from-part).used (got (goal.at.loop-i-preserved c).After-read_from-part).due in (
+    let more = rest_more (i * 10) (due b) (bits b) b.before.before.before.before.pre.0 10 _ _ _ _ b.loop.inv.2 (got d).used (got d).due in (
       omega arith,
-      same-space (goal.at.loop-i-preserved c).After-read_from-part,
+      same-space d,
       more ∙ ap (λ (k : ℕ). rest_from k (due b) (bits b)) (ten i),
-      put-next-part (i * 10) b.loop.next (left b) (es b) (so_far b).going i (front (goal.at.loop-i-preserved c).After-read_from-part) (buffer b) b.loop.out c.put_part.new.out
-          refl (front-is (goal.at.loop-i-preserved c).After-read_from-part).0 (put b) (room b (omega arith)) c.put_part.ensures,
+      put-next-part (i * 10) b.loop.next (left b) (es b) (so_far b).going i (front d) (buffer b) b.loop.out c.put_part.new.out
+          refl (front-is d).0 (put b) (room b (omega arith)) c.put_part.ensures,
     )
 
 pub shape_of-out : goal.shape_of-out
@@ -146,7 +149,8 @@ shape_of-out c = put-length (put (goal.at.shape_of-out c).At-loop-i)
 pub returns : goal.returns
 unfolding page_entries rest_after
 returns c =
+    let d = (goal.at.returns c).At-loop-i in
     let n : c.loop-i.i ≡ 5 = omega arith in
-    let p : Put (lines_text 50 (take 50 (es (goal.at.returns c).At-loop-i))) (buffer (goal.at.returns c).At-loop-i) c.loop-i.out 2100 =
-    subst (λ (k : ℕ). Put (lines_text (k * 10) (take (k * 10) (es (goal.at.returns c).At-loop-i))) (buffer (goal.at.returns c).At-loop-i) c.loop-i.out (k * 420)) n (put (goal.at.returns c).At-loop-i) in
-    (c.loop-i.invariant.2 ∙ ap (λ (k : ℕ). rest_from (k * 10) (due (goal.at.returns c).At-loop-i) (bits (goal.at.returns c).At-loop-i)) n, p.is)
+    let p : Put (lines_text 50 (take 50 (es d))) (buffer d) c.loop-i.out 2100 =
+    subst (λ (k : ℕ). Put (lines_text (k * 10) (take (k * 10) (es d))) (buffer d) c.loop-i.out (k * 420)) n (put d) in
+    (c.loop-i.invariant.2 ∙ ap (λ (k : ℕ). rest_from (k * 10) (due d) (bits d)) n, p.is)

@@ -4,20 +4,17 @@ use Rattle.page_columns.proofs.Texts.{next, moment-is}
 use mathlib.Core.Path.{refl, ◌∙◌}
 use borrow.Author.Rules.{rules}
 use Rattle.page_columns.proofs.moment_columns.Goals as goal
-use Rattle.page_columns.proofs.moment_columns.Goals.{After-digit-12, After-digit-4, After-digit-8}
+use Rattle.page_columns.proofs.moment_columns.Goals.{After-digit-12, After-digit-4}
 
 -- after the year and after the date
 module _ (c : After-digit-12) where
-  abbrev date : After-digit-8
-  date = c.before.before.before.before.before.before
-
   abbrev year : After-digit-4
-  year = date.before.before.before.before.before.before
+  year = c.before.before.before.before.before.before
 
 pub returns : goal.returns
 returns c =
     let y = year (goal.at.returns c).After-digit-12 in
-    let d = date (goal.at.returns c).After-digit-12 in
+    let d = date c in
     next y.before.before.before.before.before.digit.ensures (next y.before.before.before.digit2.ensures
     (next y.before.digit3.ensures (next y.digit4.ensures (next refl
     (next d.before.before.before.before.digit5.ensures (next d.before.before.before.digit6.ensures (next refl

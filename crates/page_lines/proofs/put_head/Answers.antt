@@ -11,15 +11,12 @@ use Rattle.page_lines.proofs.Copies.{put_at, copied}
 use Rattle.page_columns.proofs.Texts.{head-made}
 use borrow.Author.Rules.{rules}
 use Rattle.page_lines.proofs.put_head.Goals as goal
-use Rattle.page_lines.proofs.put_head.Goals.{After-copy, After-copy-2, After-line_of-dashes, Start}
+use Rattle.page_lines.proofs.put_head.Goals.{After-copy, After-copy-2, Start}
 
 -- after the first copy
 module _ (c : After-copy) where
-  abbrev made : After-line_of-dashes
-  made = c.before.before.before
-
   abbrev start : Start
-  start = made.before.before.before
+  start = c.before.before.before
 
   abbrev out₀ : List ℕ
   out₀ = start.args.out.now
@@ -32,11 +29,8 @@ module _ (c : After-copy) where
 
 -- after the second
 module _ (c : After-copy-2) where
-  abbrev c₁ : After-copy
-  c₁ = c.before.before.before.before.before
-
   abbrev text₂ : List ℕ
-  text₂ = replicate 31 32 ++ (made c₁).before.number-column.result
+  text₂ = replicate 31 32 ++ c.number_column-column.result
 
   abbrev out₂ : List ℕ
   out₂ = put_at 31 c.copy-2.new.out (out₁ c₁)
@@ -48,9 +42,10 @@ module _ (c : After-copy-2) where
 pub returns : goal.returns
 unfolding blanks
 returns c =
-    let b = c₁ (goal.at.returns c).After-copy-2 in
+    let d = (goal.at.returns c).After-copy-2 in
+    let b = c₁ c in
     let text-is =
-    head-made (start b).args.number (replicate 31 32) _ _ (omega arith) refl (made b).before.number-column.ensures (made b).line_of.ensures in
-    let size : length (made b).line_of.result ≡ 42 = search rules in
-    let p = put-more (put₂ (goal.at.returns c).After-copy-2) (copied 42 size (omega (arith, rest-length (put₂ (goal.at.returns c).After-copy-2), (start b).pre)) c.copy-3.ensures.1) in
+    head-made (start b).args.number (replicate 31 32) _ _ (omega arith) refl c.number_column-column.ensures c.line_of-dashes.ensures in
+    let size : length c.line_of-dashes.result ≡ 42 = search rules in
+    let p = put-more (put₂ d) (copied 42 size (omega (arith, rest-length (put₂ d), (start b).pre)) c.copy-3.ensures.1) in
     p.is ∙ ap (λ (text : List ℕ). text ++ drop 84 (out₀ b)) text-is

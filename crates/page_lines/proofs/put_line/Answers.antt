@@ -41,9 +41,6 @@ module _ (k : After-last_columns-last) where
 
 -- after the first copy
 module _ (c : After-copy) where
-  abbrev made₁ : After-last_columns-last
-  made₁ = c.before.before.before
-
   abbrev out₀ : List ℕ
   out₀ = (start made₁).args.out.now
 
@@ -58,9 +55,6 @@ module _ (c : After-copy) where
 
 -- after the second
 module _ (c : After-copy-2) where
-  abbrev c₁ : After-copy
-  c₁ = c.before.before.before.before.before
-
   abbrev text₂ : List ℕ
   text₂ = text₁ c₁ ++ (m (made₁ c₁)).moment-columns.result
 
@@ -74,9 +68,6 @@ module _ (c : After-copy-2) where
 
 -- after the third
 module _ (c : After-copy-3) where
-  abbrev c₂ : After-copy-2
-  c₂ = c.before.before.before.before.before
-
   abbrev made₃ : After-last_columns-last
   made₃ = made₁ (c₁ c₂)
 
@@ -93,9 +84,6 @@ module _ (c : After-copy-3) where
 
 -- before the fourth
 module _ (c : After-copy-arg-4-1) where
-  abbrev c₃ : After-copy-3
-  c₃ = c.before.before.before.before
-
   last-size : length (made₃ c₃).last-columns.result ≡ 13
   last-size = search rules
 
@@ -116,9 +104,11 @@ length_column-length-requires c = rw c.wide.ensures.0 c.requires.1.seconds
 
 pub copy-requires-4 : goal.copy-requires-4
 copy-requires-4 c =
-    omega (arith, last-size (goal.at.copy-requires-4 c).After-copy-arg-4-1, last-room (goal.at.copy-requires-4 c).After-copy-arg-4-1)
+    let d = (goal.at.copy-requires-4 c).After-copy-arg-4-1 in
+    omega (arith, last-size d, last-room d)
 
 pub returns : goal.returns
 returns c =
-    let p = put-more (put₃ (c₃ (goal.at.returns c).After-copy-arg-4-1)) (copied 13 (last-size (goal.at.returns c).After-copy-arg-4-1) (last-room (goal.at.returns c).After-copy-arg-4-1) c.copy-4.ensures.1) in
-    p.is ∙ ap (λ (text : List ℕ). text ++ drop 42 (out₀ (c₁ (c₂ (c₃ (goal.at.returns c).After-copy-arg-4-1))))) (made (made₃ (c₃ (goal.at.returns c).After-copy-arg-4-1)))
+    let d = (goal.at.returns c).After-copy-arg-4-1 in
+    let p = put-more (put₃ (c₃ c)) (copied 13 (last-size d) (last-room d) c.copy-4.ensures.1) in
+    p.is ∙ ap (λ (text : List ℕ). text ++ drop 42 (out₀ (c₁ (c₂ (c₃ c))))) (made (made₃ (c₃ c)))

@@ -48,11 +48,13 @@ gather-gathered-requires c =
 
 pub returns-in_default : goal.returns-in_default
 returns-in_default c =
-    sym (no-7 (z (goal.at.returns-in_default c).After-gather-arg).args.due (z (goal.at.returns-in_default c).After-gather-arg).args.alone (f (goal.at.returns-in_default c).After-gather-arg) (omega arith) (gathered_none (take min_frame (f (goal.at.returns-in_default c).After-gather-arg)) (sym c.gather-gathered.ensures ∙ c.in_default.is)))
+    let d = (goal.at.returns-in_default c).After-gather-arg in
+    sym (no-7 (z d).args.due (z d).args.alone (f d) (omega arith) (gathered_none (take min_frame (f d)) (sym c.gather-gathered.ensures ∙ c.in_default.is)))
 
 pub read_frame-requires : goal.read_frame-requires
 read_frame-requires c =
-    (omega arith, (front (goal.at.read_frame-requires c).In-Word).0, (front (goal.at.read_frame-requires c).In-Word).1)
+    let d = (goal.at.read_frame-requires c).In-Word in
+    (omega arith, (front d).0, (front d).1)
 
 pub returns : goal.returns
 returns c = c.read_frame.ensures

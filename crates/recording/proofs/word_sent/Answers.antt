@@ -54,28 +54,32 @@ payload_at-requires c = omega (arith, inside c c.if-minute-due.true)
 
 pub message_frame-requires : goal.message_frame-requires
 message_frame-requires c =
-    (plan-legal (schedule_of (p (goal.at.message_frame-requires c).Start) (s (goal.at.message_frame-requires c).Start)) c.requires.0, rw c.payload_at.ensures (small c c.if-minute-due.true))
+    let d = (goal.at.message_frame-requires c).Start in
+    (plan-legal (schedule_of (p d) (s d)) c.requires.0, rw c.payload_at.ensures (small c c.if-minute-due.true))
 
 pub returns-then-minute-due : goal.returns-then-minute-due
 returns-then-minute-due c =
-    let x = sent_by (p (goal.at.returns-then-minute-due c).Start) (m (goal.at.returns-then-minute-due c).Start) in
+    let u = (goal.at.returns-then-minute-due c).Start in
+    let x = sent_by (p u) (m u) in
     let e = c.if-minute-due.true in
     let w : c.message_frame.result ≡ number (message_body (bits 42 (d c e)) (x.minute % 2) x.notice) =
     unfold sent_by in (rw c.payload_at.ensures at c.message_frame.ensures) in (
-      rw w (message-lt (d c e) (x.minute % 2) x.notice (omega arith) (omega (arith, notice (goal.at.returns-then-minute-due c).Start))),
-      message-bits x (d c e) _ (length_at (p (goal.at.returns-then-minute-due c).Start) (m (goal.at.returns-then-minute-due c).Start)) (notice (goal.at.returns-then-minute-due c).Start) w (unfold sent_by in refl)
-          ∙ ap frame_of (sym (message-sent (p (goal.at.returns-then-minute-due c).Start) (s (goal.at.returns-then-minute-due c).Start) c.requires.0 (m (goal.at.returns-then-minute-due c).Start) c.args.k c.args.due c.requires.2 c.requires.1 e)),
+      rw w (message-lt (d c e) (x.minute % 2) x.notice (omega arith) (omega (arith, notice u))),
+      message-bits x (d c e) _ (length_at (p u) (m u)) (notice u) w (unfold sent_by in refl)
+          ∙ ap frame_of (sym (message-sent (p u) (s u) c.requires.0 (m u) c.args.k c.args.due c.requires.2 c.requires.1 e)),
     )
 
 pub time_frame-requires : goal.time_frame-requires
 time_frame-requires c =
-    (plan-legal (schedule_of (p (goal.at.time_frame-requires c).Start) (s (goal.at.time_frame-requires c).Start)) c.requires.0, c.requires.1, c.requires.3)
+    let d = (goal.at.time_frame-requires c).Start in
+    (plan-legal (schedule_of (p d) (s d)) c.requires.0, c.requires.1, c.requires.3)
 
 pub returns : goal.returns
 returns c =
-    let x = sent_by (p (goal.at.returns c).Start) (m (goal.at.returns c).Start) in
+    let d = (goal.at.returns c).Start in
+    let x = sent_by (p d) (m d) in
     let w : c.time_frame.result ≡ number (body_of x) = c.time_frame.ensures in (
-      rw w (body-lt x (notice (goal.at.returns c).Start)),
-      frame-bits x _ (length_at (p (goal.at.returns c).Start) (m (goal.at.returns c).Start)) (notice (goal.at.returns c).Start) w (unfold sent_by in refl)
-          ∙ ap frame_of (sym (time-sent (p (goal.at.returns c).Start) (s (goal.at.returns c).Start) c.requires.0 (m (goal.at.returns c).Start) c.args.k c.args.due c.requires.2 c.if-minute-due.false)),
+      rw w (body-lt x (notice d)),
+      frame-bits x _ (length_at (p d) (m d)) (notice d) w (unfold sent_by in refl)
+          ∙ ap frame_of (sym (time-sent (p d) (s d) c.requires.0 (m d) c.args.k c.args.due c.requires.2 c.if-minute-due.false)),
     )

@@ -23,24 +23,21 @@ use Rattle.sequence.proofs.Tails.{tail, tail-back, length_rest}
 use Rattle.sequence.proofs.Sums.{seconds-snoc, seconds-mono, recording-snoc, length-recording, part-more}
 use Rattle.recording.proofs.Turn.{whole}
 use Rattle.recording.proofs.write_frames.Goals as goal
-use Rattle.recording.proofs.write_frames.Goals.{After-slice_known-in-loop-i-1, In-loop-i, Joined-minute-day, Joined-minute-due, Start}
+use Rattle.recording.proofs.write_frames.Goals.{After-slice_known-in-loop-i-1, In-loop-i, Joined-minute-day, Joined-minute-due}
 
 -- in a turn
 module _ (c : In-loop-i) where
-  abbrev start : Start
-  start = c.before.before.before.before.before.before.before
-
   abbrev p : Plan
-  p = start.args.plan
+  p = c.args.plan
 
   abbrev s : List ℕ
-  s = start.args.messages.now
+  s = c.args.messages.now
 
   abbrev q : Schedule
   q = schedule_of p s
 
   abbrev m : ℕ
-  m = start.args.first
+  m = c.args.first
 
   abbrev i : ℕ
   i = c.loop-i.i
@@ -52,7 +49,7 @@ module _ (c : In-loop-i) where
   out = c.loop-i.out
 
   abbrev out₀ : List ℕ
-  out₀ = start.args.out.now
+  out₀ = c.args.out.now
 
   legal : legal_schedule q ≡ true
   legal = start.pre.0
@@ -70,7 +67,7 @@ module _ (c : In-loop-i) where
         arith,
         c.loop-i.invariant.1,
         seconds-snoc p m i,
-        seconds-mono p m (suc i) start.args.count c.loop-i-test.true,
+        seconds-mono p m (suc i) c.args.count c.loop-i-test.true,
         start.pre.3,
       )
 
@@ -145,12 +142,12 @@ loop-i-init c =
     )
 
 pub overflow_add-minute : goal.overflow_add-minute
-overflow_add-minute c =
-    omega (arith, (start (goal.at.overflow_add-minute c).In-loop-i).requires.2, c.loop-i-test.true)
+overflow_add-minute c = omega (arith, c.requires.2, c.loop-i-test.true)
 
 pub day_word-word-requires-then-minute-day : goal.day_word-word-requires-then-minute-day
 day_word-word-requires-then-minute-day c =
-    (plan-legal (q (goal.at.day_word-word-requires-then-minute-day c).In-loop-i) (legal (goal.at.day_word-word-requires-then-minute-day c).In-loop-i), omega (arith, (start (goal.at.day_word-word-requires-then-minute-day c).In-loop-i).pre.2, c.loop-i-test.true))
+    let d = (goal.at.day_word-word-requires-then-minute-day c).In-loop-i in
+    (plan-legal (q d) (legal d), omega (arith, c.pre.2, c.loop-i-test.true))
 
 pub slice_bounds-write_next-count : goal.slice_bounds-write_next-count
 slice_bounds-write_next-count c =
@@ -161,27 +158,31 @@ slice_bounds-write_next-start c =
     omega (arith, fits (goal.at.slice_bounds-write_next-start c).In-loop-i, c.loop-i.invariant.2)
 
 pub write_next-at-requires : goal.write_next-at-requires
-write_next-at-requires c = (
-  legal (goal.at.write_next-at-requires c).In-loop-i,
-  range (goal.at.write_next-at-requires c).In-loop-i,
-  next-is (goal.at.write_next-at-requires c).In-loop-i,
-  word-now (goal.at.write_next-at-requires c).Joined-minute-day ∙ ap (day_word (p (goal.at.write_next-at-requires c).In-loop-i)) (day-now (goal.at.write_next-at-requires c).Joined-minute-day),
-  rw (tail (out (goal.at.write_next-at-requires c).In-loop-i) (at (goal.at.write_next-at-requires c).In-loop-i)) (omega (arith, fits (goal.at.write_next-at-requires c).In-loop-i, c.loop-i.invariant.2, length-drop (at (goal.at.write_next-at-requires c).In-loop-i) (out (goal.at.write_next-at-requires c).In-loop-i))),
-)
+write_next-at-requires c =
+    let d = (goal.at.write_next-at-requires c).In-loop-i in
+    let u = (goal.at.write_next-at-requires c).Joined-minute-day in (
+      legal d,
+      range d,
+      next-is d,
+      word-now u ∙ ap (day_word (p d)) (day-now u),
+      rw (tail (out d) (at d)) (omega (arith, fits d, c.loop-i.invariant.2, length-drop (at d) (out d))),
+    )
 
 pub overflow_add-at : goal.overflow_add-at
 overflow_add-at c = omega (arith, fits (turn-of c), c.write_next-at.ensures.0)
 
 pub overflow_add-k : goal.overflow_add-k
 overflow_add-k c =
+    let u = (goal.at.overflow_add-k c).In-loop-i in
     let d = turn-of c in
-    omega (arith, d.before.loop.inv.5.inside, index (s (goal.at.overflow_add-k c).In-loop-i) (messages-legal (q (goal.at.overflow_add-k c).In-loop-i) (legal (goal.at.overflow_add-k c).In-loop-i)) (m (goal.at.overflow_add-k c).In-loop-i + i (goal.at.overflow_add-k c).In-loop-i) d.before.loop.k d.before.loop.due (next-is (goal.at.overflow_add-k c).In-loop-i) (range (goal.at.overflow_add-k c).In-loop-i) c.if-minute-due.true)
+    omega (arith, d.before.loop.inv.5.inside, index (s u) (messages-legal (q u) (legal u)) (m u + i u) d.before.loop.k d.before.loop.due (next-is u) (range u) c.if-minute-due.true)
 
 pub next_minute-due-requires-then-minute-due : goal.next_minute-due-requires-then-minute-due
 next_minute-due-requires-then-minute-due c =
+    let u = (goal.at.next_minute-due-requires-then-minute-due c).In-loop-i in
     let d = turn-of c in (
-      whole (q (goal.at.next_minute-due-requires-then-minute-due c).In-loop-i).plan (s (goal.at.next_minute-due-requires-then-minute-due c).In-loop-i) (legal (goal.at.next_minute-due-requires-then-minute-due c).In-loop-i),
-      omega (arith, index (s (goal.at.next_minute-due-requires-then-minute-due c).In-loop-i) (messages-legal (q (goal.at.next_minute-due-requires-then-minute-due c).In-loop-i) (legal (goal.at.next_minute-due-requires-then-minute-due c).In-loop-i)) (m (goal.at.next_minute-due-requires-then-minute-due c).In-loop-i + i (goal.at.next_minute-due-requires-then-minute-due c).In-loop-i) d.before.loop.k d.before.loop.due (next-is (goal.at.next_minute-due-requires-then-minute-due c).In-loop-i) (range (goal.at.next_minute-due-requires-then-minute-due c).In-loop-i) c.if-minute-due.true),
+      whole (q u).plan (s u) (legal u),
+      omega (arith, index (s u) (messages-legal (q u) (legal u)) (m u + i u) d.before.loop.k d.before.loop.due (next-is u) (range u) c.if-minute-due.true),
     )
 
 pub overflow_add-i : goal.overflow_add-i
@@ -192,13 +193,14 @@ loop-i-smaller c = omega (arith, (turn-of c).loop-test.taken)
 
 pub loop-i-preserved : goal.loop-i-preserved
 loop-i-preserved c =
+    let d = (goal.at.loop-i-preserved c).In-loop-i in
     let n = c.write_next-at.result in
-    let e : n ≡ length_at (p (goal.at.loop-i-preserved c).In-loop-i) (m (goal.at.loop-i-preserved c).In-loop-i + i (goal.at.loop-i-preserved c).In-loop-i) = c.write_next-at.ensures.0 in
-    let b = next (goal.at.loop-i-preserved c).In-loop-i c.write_next-at.new.out n e c.write_next-at.ensures.1 in
-    let x = sum (goal.at.loop-i-preserved c).In-loop-i n e in (
+    let e : n ≡ length_at (p d) (m d + i d) = c.write_next-at.ensures.0 in
+    let b = next d c.write_next-at.new.out n e c.write_next-at.ensures.1 in
+    let x = sum d n e in (
       omega (arith, c.loop-i-test.true),
       x,
-      ap length b ∙ length_rest (recording (q (goal.at.loop-i-preserved c).In-loop-i) (m (goal.at.loop-i-preserved c).In-loop-i) (i (goal.at.loop-i-preserved c).In-loop-i + 1)) (out₀ (goal.at.loop-i-preserved c).In-loop-i) (at (goal.at.loop-i-preserved c).In-loop-i + n) (length-recording (q (goal.at.loop-i-preserved c).In-loop-i) (m (goal.at.loop-i-preserved c).In-loop-i) (i (goal.at.loop-i-preserved c).In-loop-i + 1) ∙ sym x) (omega (arith, fits (goal.at.loop-i-preserved c).In-loop-i)),
+      ap length b ∙ length_rest (recording (q d) (m d) (i d + 1)) (out₀ d) (at d + n) (length-recording (q d) (m d) (i d + 1) ∙ sym x) (omega (arith, fits d)),
       b,
       word-now (goal.at.loop-i-preserved c).Joined-minute-day,
       next-now (goal.at.loop-i-preserved c).Joined-minute-due,

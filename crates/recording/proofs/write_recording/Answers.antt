@@ -38,9 +38,6 @@ legal c = sym c.is_legal.ensures ∙ c.if-not-is_legal.false
 
 -- after questions 2 and 3
 module _ (c : Else-count-first) where
-  abbrev e : Else-not-is_legal
-  e = c.before.before.before
-
   low : 1 ≤ n (start e)
   low = c.if-count-lt1.false
 
@@ -52,7 +49,8 @@ module _ (c : Else-count-first) where
 
 pub returns-then-not-is_legal : goal.returns-then-not-is_legal
 returns-then-not-is_legal c =
-    no-1 (q (goal.at.returns-then-not-is_legal c).Start) (m (goal.at.returns-then-not-is_legal c).Start) (n (goal.at.returns-then-not-is_legal c).Start) (out (goal.at.returns-then-not-is_legal c).Start) (sym c.is_legal.ensures ∙ c.if-not-is_legal.true)
+    let d = (goal.at.returns-then-not-is_legal c).Start in
+    no-1 (q d) (m d) (n d) (out d) (sym c.is_legal.ensures ∙ c.if-not-is_legal.true)
 
 pub returns-then-count-lt1 : goal.returns-then-count-lt1
 returns-then-count-lt1 c =
@@ -69,16 +67,19 @@ returns-then-count-first c =
 
 pub returns-then-out-needed : goal.returns-then-out-needed
 returns-then-out-needed c =
-    let b = start (e (goal.at.returns-then-out-needed c).Else-count-first) in
-    no-4 (q b) (m b) (n b) (out b) (legal (e (goal.at.returns-then-out-needed c).Else-count-first)) (low (goal.at.returns-then-out-needed c).Else-count-first) (high (goal.at.returns-then-out-needed c).Else-count-first) (fits (goal.at.returns-then-out-needed c).Else-count-first) (rw (← c.bits_needed-needed.ensures) c.if-out-needed.true)
+    let d = (goal.at.returns-then-out-needed c).Else-count-first in
+    let b = start (e c) in
+    no-4 (q b) (m b) (n b) (out b) (legal (e c)) (low d) (high d) (fits d) (rw (← c.bits_needed-needed.ensures) c.if-out-needed.true)
 
 pub write_frames-requires : goal.write_frames-requires
 write_frames-requires c =
-    (legal (e (goal.at.write_frames-requires c).Else-count-first), low (goal.at.write_frames-requires c).Else-count-first, fits (goal.at.write_frames-requires c).Else-count-first, rw (← c.bits_needed-needed.ensures) c.if-out-needed.false)
+    let d = (goal.at.write_frames-requires c).Else-count-first in
+    (legal (e c), low d, fits d, rw (← c.bits_needed-needed.ensures) c.if-out-needed.false)
 
 pub returns : goal.returns
 returns c =
-    let b = start (e (goal.at.returns c).Else-count-first) in
+    let d = (goal.at.returns c).Else-count-first in
+    let b = start (e c) in
     let y = c.bits_needed-needed in
-    yes-4 (q b) (m b) (n b) (out b) (legal (e (goal.at.returns c).Else-count-first)) (low (goal.at.returns c).Else-count-first) (high (goal.at.returns c).Else-count-first) (fits (goal.at.returns c).Else-count-first) y.result c.write_frames.new.out
+    yes-4 (q b) (m b) (n b) (out b) (legal (e c)) (low d) (high d) (fits d) y.result c.write_frames.new.out
     (rw (← y.ensures) c.if-out-needed.false) y.ensures c.write_frames.ensures

@@ -38,10 +38,12 @@ module _ (a : Start) where
 
 pub returns-in-Written : goal.returns-in-Written
 returns-in-Written c =
+    let d = (goal.at.returns-in-Written c).Start in
     let w = c.write_recording-answer in
-    (numbers (goal.at.returns-in-Written c).Start (ap write_numbers (sym c.in-Written.is) ∙ w.ensures.0), after (goal.at.returns-in-Written c).Start w.ensures.1)
+    (numbers d (ap write_numbers (sym c.in-Written.is) ∙ w.ensures.0), after d w.ensures.1)
 
 pub returns-in-Refused : goal.returns-in-Refused
 returns-in-Refused c =
+    let d = (goal.at.returns-in-Refused c).Start in
     let w = c.write_recording-answer in
-    (numbers (goal.at.returns-in-Refused c).Start (ap refused_with c.number-refusal.ensures ∙ ap write_numbers (sym c.in-Refused.is) ∙ w.ensures.0), after (goal.at.returns-in-Refused c).Start w.ensures.1)
+    (numbers d (ap refused_with c.number-refusal.ensures ∙ ap write_numbers (sym c.in-Refused.is) ∙ w.ensures.0), after d w.ensures.1)

@@ -81,32 +81,37 @@ module _ (b : After-echo_bit) where
 
 pub returns-then-not-is_known : goal.returns-then-not-is_known
 returns-then-not-is_known c =
-    sym (no-20 (m (goal.at.returns-then-not-is_known c).After-is_known) (l (goal.at.returns-then-not-is_known c).After-is_known) (one (goal.at.returns-then-not-is_known c).After-is_known) (f (goal.at.returns-then-not-is_known c).After-is_known) (e (goal.at.returns-then-not-is_known c).After-is_known) (sym c.is_known.ensures ∙ c.if-not-is_known.true))
+    let d = (goal.at.returns-then-not-is_known c).After-is_known in
+    sym (no-20 (m d) (l d) (one d) (f d) (e d) (sym c.is_known.ensures ∙ c.if-not-is_known.true))
 
 pub returns-then-minute-ge-MINUTES : goal.returns-then-minute-ge-MINUTES
 unfolding message_in message_entry
 returns-then-minute-ge-MINUTES c =
-    sym (no-11 (m (goal.at.returns-then-minute-ge-MINUTES c).After-is_known) (l (goal.at.returns-then-minute-ge-MINUTES c).After-is_known) (one (goal.at.returns-then-minute-ge-MINUTES c).After-is_known) (f (goal.at.returns-then-minute-ge-MINUTES c).After-is_known) (e (goal.at.returns-then-minute-ge-MINUTES c).After-is_known) (q20 (goal.at.returns-then-minute-ge-MINUTES c).Else-not-is_known) c.if-minute-ge-MINUTES.true)
+    let d = (goal.at.returns-then-minute-ge-MINUTES c).After-is_known in
+    sym (no-11 (m d) (l d) (one d) (f d) (e d) (q20 (goal.at.returns-then-minute-ge-MINUTES c).Else-not-is_known) c.if-minute-ge-MINUTES.true)
 
 pub ends_right-requires : goal.ends_right-requires
 ends_right-requires c = rw c.seconds_for-length.ensures (seconds-long _ _)
 
 pub returns-then-not-ends_right : goal.returns-then-not-ends_right
 returns-then-not-ends_right c =
-    let k = g (goal.at.returns-then-not-ends_right c).After-ends_right in
-    sym (no-13 (m k) (l k) (one k) (f k) (e k) (q20 (o (goal.at.returns-then-not-ends_right c).After-ends_right)) (q11 (goal.at.returns-then-not-ends_right c).After-ends_right) (sym (q13 (goal.at.returns-then-not-ends_right c).After-ends_right) ∙ c.if-not-ends_right.true))
+    let d = (goal.at.returns-then-not-ends_right c).After-ends_right in
+    let k = g d in
+    sym (no-13 (m k) (l k) (one k) (f k) (e k) (q20 (o d)) (q11 d) (sym (q13 d) ∙ c.if-not-ends_right.true))
 
 pub returns-then-echo_bit-minute : goal.returns-then-echo_bit-minute
 unfolding message_in message_entry
 returns-then-echo_bit-minute c =
-    let a = a' (goal.at.returns-then-echo_bit-minute c).After-echo_bit in
+    let d = (goal.at.returns-then-echo_bit-minute c).After-echo_bit in
+    let a = a' d in
     let k = g a in
-    sym (no-14 (m k) (l k) (one k) (f k) (e k) (q20 (o a)) (q11 a) (yes-13 (goal.at.returns-then-echo_bit-minute c).After-echo_bit) (λ h. c.if-echo_bit-minute.true (sym (echo-is (goal.at.returns-then-echo_bit-minute c).After-echo_bit) ∙ h)))
+    sym (no-14 (m k) (l k) (one k) (f k) (e k) (q20 (o a)) (q11 a) (yes-13 d) (λ h. c.if-echo_bit-minute.true (sym (echo-is d) ∙ h)))
 
 pub returns : goal.returns
 unfolding message_in message_entry
 returns c =
-    let a = a' (goal.at.returns c).After-echo_bit in
+    let d = (goal.at.returns c).After-echo_bit in
+    let a = a' d in
     let k = g a in
     let w = (z k).args.word in
     ap entry
@@ -114,4 +119,4 @@ returns c =
     a.before.seconds-for.ensures
     (c.notice_bit-notice.ensures ∙ notice-bit w ∙ sym (notice-of (f k) w (z k).pre))
     (c.message_data-payload.ensures ∙ sym (data_of (f k) w (z k).pre)))
-    ∙ sym (yes-14 (m k) (l k) (one k) (f k) (e k) (q20 (o a)) (q11 a) (yes-13 (goal.at.returns c).After-echo_bit) (echo-is (goal.at.returns c).After-echo_bit ∙ c.if-echo_bit-minute.false))
+    ∙ sym (yes-14 (m k) (l k) (one k) (f k) (e k) (q20 (o a)) (q11 a) (yes-13 d) (echo-is d ∙ c.if-echo_bit-minute.false))

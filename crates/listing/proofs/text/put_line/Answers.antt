@@ -24,28 +24,22 @@ fits : (c : Start) → (width c.args.minute + 1) + ((width (length_at c.args.pla
 fits c = omega (arith, c.requires.2, length-line c.args.plan c.args.minute)
 
 module _ (c : After-put_number-a) where
-  abbrev start : Start
-  start = c.before.before.before.before
-
   abbrev seconds : ℕ
   seconds = c.length-seconds.result
 
-  seconds-is : seconds ≡ length_at start.args.plan start.args.minute
+  seconds-is : seconds ≡ length_at c.args.plan c.args.minute
   seconds-is = c.length-seconds.ensures
 
   abbrev out₁ : List ℕ
   out₁ = c.put_number-a.new.out
 
   -- the minute
-  one : Put (number_text start.args.minute 32) start.args.out.now out₁ c.put_number-a.result
+  one : Put (number_text c.args.minute 32) c.args.out.now out₁ c.put_number-a.result
   one =
-      put_of (number_text start.args.minute 32) start.args.out.now out₁ (width start.args.minute + 1) c.put_number-a.result
-      (length-number start.args.minute 32) (omega (arith, fits start)) c.put_number-a.ensures.0 c.put_number-a.ensures.1
+      put_of (number_text c.args.minute 32) c.args.out.now out₁ (width c.args.minute + 1) c.put_number-a.result
+      (length-number c.args.minute 32) (omega (arith, fits start)) c.put_number-a.ensures.0 c.put_number-a.ensures.1
 
 module _ (c : After-put_number) where
-  abbrev first : After-put_number-a
-  first = c.before.before.before.before
-
   abbrev at₂ : ℕ
   at₂ = first.put-number.result + c.put_number.result
 
@@ -55,7 +49,7 @@ module _ (c : After-put_number) where
       ++ (c.put_number.new.out ++ drop (length (out₁ first) - first.put-number.result) (drop first.put-number.result (out₁ first)))
 
   -- and the length
-  two : Put (number_text (start first).args.minute 32 ++ number_text (seconds first) 32) (start first).args.out.now out₂ at₂
+  two : Put (number_text c.args.minute 32 ++ number_text (seconds first) 32) c.args.out.now out₂ at₂
   two =
       put-more (one first)
       (put_of (number_text (seconds first) 32) _ c.put_number.new.out (width (seconds first) + 1) c.put_number.result
@@ -63,9 +57,6 @@ module _ (c : After-put_number) where
       c.put_number.ensures.0 c.put_number.ensures.1)
 
 module _ (c : After-put_frame) where
-  abbrev second : After-put_number
-  second = c.before.before.before.before
-
   abbrev p : Plan
   p = (start (first second)).args.plan
 
@@ -81,7 +72,7 @@ module _ (c : After-put_frame) where
       (put-more (two second)
       (put_of (bits_text (frame (sent_by p m))) _ c.put_frame.new.out (length_at p m + 1) c.put_frame.result
       (length-bits (frame (sent_by p m)) ∙ ap (λ (n : ℕ). n + 1) (length-time p m))
-      (rw (rest-length (two second)) (omega (arith, fits (start (first second)), (first second).put-number.ensures.0, second.put-number2.ensures.0, ap width (seconds-is (first second)))))
+      (rw (rest-length (two second)) (omega (arith, fits (start (first second)), c.put_number-a.ensures.0, second.put-number2.ensures.0, ap width (seconds-is (first second)))))
       c.put_frame.ensures.0 c.put_frame.ensures.1))
 
 pub put_number-a-requires : goal.put_number-a-requires
@@ -97,7 +88,8 @@ slice_bounds-put_number-start c =
 
 pub put_number-requires : goal.put_number-requires
 put_number-requires c =
-    rw (rest-length (one (goal.at.put_number-requires c).After-put_number-a)) (omega (arith, fits (start (goal.at.put_number-requires c).After-put_number-a), c.put_number-a.ensures.0, seconds-is (goal.at.put_number-requires c).After-put_number-a, ap width (seconds-is (goal.at.put_number-requires c).After-put_number-a)))
+    let d = (goal.at.put_number-requires c).After-put_number-a in
+    rw (rest-length (one d)) (omega (arith, fits (start c), c.put_number-a.ensures.0, seconds-is d, ap width (seconds-is d)))
 
 pub overflow_add-b : goal.overflow_add-b
 overflow_add-b c = omega (arith, (two (goal.at.overflow_add-b c).After-put_number).room)
@@ -112,7 +104,8 @@ slice_bounds-put_frame-start c =
 
 pub put_frame-requires : goal.put_frame-requires
 put_frame-requires c =
-    ((start (goal.at.put_frame-requires c).After-put_number-a).requires.0, (start (goal.at.put_frame-requires c).After-put_number-a).requires.1, rw (rest-length (two (goal.at.put_frame-requires c).After-put_number)) (omega (arith, fits (start (goal.at.put_frame-requires c).After-put_number-a), c.put_number-a.ensures.0, c.put_number.ensures.0, ap width (seconds-is (goal.at.put_frame-requires c).After-put_number-a))))
+    let d = (goal.at.put_frame-requires c).After-put_number in
+    (c.requires.0, c.requires.1, rw (rest-length (two d)) (omega (arith, fits (start c), c.put_number-a.ensures.0, c.put_number.ensures.0, ap width (seconds-is d-a))))
 
 pub overflow_add-result : goal.overflow_add-result
 overflow_add-result c = omega (arith, (three (goal.at.overflow_add-result c).After-put_frame).room)

@@ -56,12 +56,13 @@ overflow_add-at c =
 
 pub loop-i-preserved : goal.loop-i-preserved
 loop-i-preserved c =
+    let d = (goal.at.loop-i-preserved c).In-loop-i in
     let w = c.put_line-at in
-    let l = line_of (p (goal.at.loop-i-preserved c).In-loop-i) (m (goal.at.loop-i-preserved c).In-loop-i + i (goal.at.loop-i-preserved c).In-loop-i) in (
+    let l = line_of (p d) (m d + i d) in (
       omega arith,
-      rw (add-one (i (goal.at.loop-i-preserved c).In-loop-i), lines_snoc (p (goal.at.loop-i-preserved c).In-loop-i) (m (goal.at.loop-i-preserved c).In-loop-i) (i (goal.at.loop-i-preserved c).In-loop-i))
+      rw (add-one (i d), lines_snoc (p d) (m d) (i d))
           (put-more c.loop-i.invariant.1
-          (put_of l _ w.new.out (length l) w.result refl (rw (rest-length c.loop-i.invariant.1) (omega (arith, fits (goal.at.loop-i-preserved c).In-loop-i))) w.ensures.0 w.ensures.1)),
+          (put_of l _ w.new.out (length l) w.result refl (rw (rest-length c.loop-i.invariant.1) (omega (arith, fits d))) w.ensures.0 w.ensures.1)),
     )
 
 pub shape_of-out : goal.shape_of-out

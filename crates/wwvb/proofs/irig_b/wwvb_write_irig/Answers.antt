@@ -46,14 +46,16 @@ refused-reply Space = refl
 pub returns-in-Written : goal.returns-in-Written
 unfolding reply_numbers
 returns-in-Written c =
+    let d = (goal.at.returns-in-Written c).Start in
     let w = c.write_second-answer in
-    (ap (reply_numbers 1) (by_sign (goal.at.returns-in-Written c).Start (numbers_by (goal.at.returns-in-Written c).Start) (ap write_numbers (sym c.in-Written.is)) w.ensures.0), by_sign (goal.at.returns-in-Written c).Start (buffer_by (goal.at.returns-in-Written c).Start) refl w.ensures.1)
+    (ap (reply_numbers 1) (by_sign d (numbers_by d) (ap write_numbers (sym c.in-Written.is)) w.ensures.0), by_sign d (buffer_by d) refl w.ensures.1)
 
 pub returns-in-Refused : goal.returns-in-Refused
 returns-in-Refused c =
+    let d = (goal.at.returns-in-Refused c).Start in
     let w = c.write_second-answer in (
       ap (λ (n : ℕ). n ∷ 0 ∷ []) c.number-refusal.ensures
           ∙ refused-reply c.in-Refused.question
-          ∙ ap (reply_numbers 1) (by_sign (goal.at.returns-in-Refused c).Start (numbers_by (goal.at.returns-in-Refused c).Start) (ap write_numbers (sym c.in-Refused.is)) w.ensures.0),
-      by_sign (goal.at.returns-in-Refused c).Start (buffer_by (goal.at.returns-in-Refused c).Start) refl w.ensures.1,
+          ∙ ap (reply_numbers 1) (by_sign d (numbers_by d) (ap write_numbers (sym c.in-Refused.is)) w.ensures.0),
+      by_sign d (buffer_by d) refl w.ensures.1,
     )
