@@ -17,8 +17,8 @@ loop-i-preserved c =
     let g = c.is_gap in
     let h : l.i < length t = omega arith in
     let after = ⊎_elim
-    (λ w. after-bit t l.text l.count l.i l.invariant.0 _ g.result _ w.1.result h g.ensures (not-true _ w.0.taken) w.1.ensures w.2 w.3)
-    (λ w. after-gap t l.text l.count l.i l.invariant.0 _ g.result _ 0 h g.ensures (not-false _ w.0.left) w.1 w.2)
+    (λ w. after-bit t l.text l.count l.i l.invariant.0 _ g.result _ w.1.result h g.ensures (not-true _ w.0.true) w.1.ensures w.2 w.3)
+    (λ w. after-gap t l.text l.count l.i l.invariant.0 _ g.result _ 0 h g.ensures (not-false _ w.0.false) w.1 w.2)
     c.if-not-is_gap.branch in
     (after, gathered-length _ _ _ _ after)
 

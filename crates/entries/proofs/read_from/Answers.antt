@@ -52,10 +52,10 @@ module _ (a : At-loop-used) where
   answer = read_entry a.loop.next false (length part) rest
 
   part_length : length part ≡ length buffer - from
-  part_length = rw (tail a.loop.entries from) (omega (arith, length-drop from a.loop.entries, a.loop.inv.2))
+  part_length = rw (tail a.loop.entries from) (omega (arith, length-drop from a.loop.entries, a.loop.invariant.2))
 
   free-slots : length part / entry_size ≡ slots
-  free-slots = omega (arith, part_length, a.loop.inv.1)
+  free-slots = omega (arith, part_length, a.loop.invariant.1)
 
   -- where what is left finds nothing more, the outcome is what is there
   stopped-at : (n : ℕ) (later : List ℕ) → later ≡ a.loop.entries → read_frames slots a.loop.next rest ≡ stop a.loop.next n
@@ -66,8 +66,8 @@ module _ (a : At-loop-used) where
     rw same
         (sym (resume-stop a.loop.count a.loop.used a.loop.entries a.loop.next n)
         ∙ ap (resume a.loop.count a.loop.used a.loop.entries) (sym e)
-        ∙ a.loop.inv.3),
-    rw e at a.loop.inv.4,
+        ∙ a.loop.invariant.3),
+    rw e at a.loop.invariant.4,
   )
 
 some : (c : In-loop-used) → 0 < length (rest c.before)
@@ -115,7 +115,7 @@ module _ (r : After-read_entry-step) (e : Entry) (is : answer (a r) ≡ entry e)
   free = room_of (length (part (a r))) (a r).loop.next (rest (a r)) e is
 
   room : from (a r) + entry_size ≤ length (a r).loop.entries
-  room = omega (arith, free, part_length (a r), (a r).loop.inv.2)
+  room = omega (arith, free, part_length (a r), (a r).loop.invariant.2)
 
   entry-is : read_next (a r).loop.next false (rest (a r)) ≡ entry e
   entry-is = sym (yes-5 (a r).loop.next false (length (part (a r))) (rest (a r)) free) ∙ is
@@ -124,13 +124,13 @@ module _ (r : After-read_entry-step) (e : Entry) (is : answer (a r) ≡ entry e)
   fine = accepted (a r).loop.next false (rest (a r)) e entry-is
 
   left : (a r).loop.used + e.seconds ≤ length (bits (a r))
-  left = omega (arith, fine.enough-left, length-drop (a r).loop.used (bits (a r)), (a r).loop.inv.0)
+  left = omega (arith, fine.enough-left, length-drop (a r).loop.used (bits (a r)), (a r).loop.invariant.0)
 
   abbrev fewer : ℕ
   fewer = length (buffer (a r)) / entry_size - ((a r).loop.count + 1)
 
   one-slot : slots (a r) ≡ suc fewer
-  one-slot = omega (arith, room, (a r).loop.inv.2)
+  one-slot = omega (arith, room, (a r).loop.invariant.2)
 
   put_is : (ys : List ℕ) → ys ≡ (one_outcome (part (a r)) (answer (a r))).buffer → ys ≡ entry_bytes e ++ drop entry_size (part (a r))
   unfolding one_outcome
@@ -143,13 +143,13 @@ module _ (r : After-read_entry-step) (e : Entry) (is : answer (a r) ≡ entry e)
       ((a r).loop.used + n) ((a r).loop.count + 1) d
   again n en d ed ys h = (
     rw en left,
-    omega (arith, room, (a r).loop.inv.2),
-    put-length (a r).loop.entries ys (from (a r)) e room (put_is ys h) ∙ (a r).loop.inv.2,
+    omega (arith, room, (a r).loop.invariant.2),
+    put-length (a r).loop.entries ys (from (a r)) e room (put_is ys h) ∙ (a r).loop.invariant.2,
     turn fewer (a r).loop.count (a r).loop.used n (a r).loop.next d (bits (a r)) (a r).loop.entries ys e (read_from (first (a r)) (buffer (a r)) (bits (a r)))
         en ed (some r.before.before.before) entry-is room (put_is ys h)
-        (ap (λ (s : ℕ). resume (a r).loop.count (a r).loop.used (a r).loop.entries (read_frames s (a r).loop.next (rest (a r)))) (sym one-slot) ∙ (a r).loop.inv.3),
+        (ap (λ (s : ℕ). resume (a r).loop.count (a r).loop.used (a r).loop.entries (read_frames s (a r).loop.next (rest (a r)))) (sym one-slot) ∙ (a r).loop.invariant.3),
     turn-due fewer (a r).loop.used n (a r).loop.next d (due_from (first (a r)) (buffer (a r)) (bits (a r))) (bits (a r)) e en ed
-        (some r.before.before.before) entry-is (rw one-slot at (a r).loop.inv.4),
+        (some r.before.before.before) entry-is (rw one-slot at (a r).loop.invariant.4),
   )
 
 -- where the step took a frame
@@ -180,7 +180,7 @@ loop-used-init c =
 pub shape_of-entries-in-Halt : goal.shape_of-entries-in-Halt
 shape_of-entries-in-Halt c =
     let d = (goal.at.shape_of-entries-in-Halt c).In-Halt in
-    ap length (kept d) ∙ (a (rh d)).loop.inv.2
+    ap length (kept d) ∙ (a (rh d)).loop.invariant.2
 
 pub returns-in-Halt : goal.returns-in-Halt
 returns-in-Halt c =
@@ -192,17 +192,17 @@ returns-in-Halt c =
 pub overflow_add-used : goal.overflow_add-used
 overflow_add-used c =
     let d = (goal.at.overflow_add-used c).In-Advance in
-    omega (arith, (went d).bits, left (rk d) (went d).taken (went d).is)
+    omega (arith, (went d).bits, left (rk d) (went d).true (went d).is)
 
 pub loop-used-smaller : goal.loop-used-smaller
 loop-used-smaller c =
     let d = (goal.at.loop-used-smaller c).In-Advance in
-    omega (arith, (went d).bits, left (rk d) (went d).taken (went d).is, (fine (rk d) (went d).taken (went d).is).long)
+    omega (arith, (went d).bits, left (rk d) (went d).true (went d).is, (fine (rk d) (went d).true (went d).is).long)
 
 pub loop-used-preserved : goal.loop-used-preserved
 loop-used-preserved c =
     let d = (goal.at.loop-used-preserved c).In-Advance in
-    again (rk d) (went d).taken (went d).is _ (went d).bits _ (went d).next (later (rk d)) (later-is (rk d))
+    again (rk d) (went d).true (went d).is _ (went d).bits _ (went d).next (later (rk d)) (later-is (rk d))
 
 pub shape_of-entries : goal.shape_of-entries
 shape_of-entries c = c.loop-used.invariant.2

@@ -29,10 +29,10 @@ module _ (c : Joined-alone) where
   l = length c.args.frame.now
 
   enough-true : enough c.args.alone n l ≡ true
-  enough-true = ⊎_elim (λ w. exactly _ n l w.0.taken (omega (arith, w.1.left))) (λ w. at_least _ n l w.0.left w.1.left) c.if-alone.branch
+  enough-true = ⊎_elim (λ w. exactly _ n l w.0.true (omega (arith, w.1.false))) (λ w. at_least _ n l w.0.false w.1.false) c.if-alone.branch
 
   long : n ≤ l
-  long = ⊎_elim (λ w. omega (arith, w.1.left)) (λ w. w.1.left) c.if-alone.branch
+  long = ⊎_elim (λ w. omega (arith, w.1.false)) (λ w. w.1.false) c.if-alone.branch
 
 pub returns-then-seconds-frame : goal.returns-then-seconds-frame
 unfolding enough

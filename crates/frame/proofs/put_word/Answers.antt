@@ -20,7 +20,7 @@ module _ (a : Start) where
   out = a.args.out.now
 
   part_length : length (take n out) ≡ n
-  part_length = length-take-le n out a.pre.3
+  part_length = length-take-le n out a.requires.3
 
 pub slice_bounds-spread-end-2 : goal.slice_bounds-spread-end-2
 slice_bounds-spread-end-2 c = sym (part_length (goal.at.slice_bounds-spread-end-2 c).Start)

@@ -50,10 +50,10 @@ module _ (a : After-read_row-found) where
   at t = entry_at x t a.before.before.args.state
 
   q9 : state_of (number (state_in f)) < illegal
-  q9 = rw (← a.before.before.pre.1) (state-lt a.before.before.args.state)
+  q9 = rw (← a.before.before.requires.1) (state-lt a.before.before.args.state)
 
   is : entry_of f ≡ at (reading (bits 31 (number (word_in (bits min_frame x)))))
-  is = entry-is f x a.before.before.args.state a.before.before.pre.0 a.before.before.pre.1
+  is = entry-is f x a.before.before.args.state a.before.before.requires.0 a.before.before.requires.1
 
 -- the word stands for a row
 module _ (k : In-Assigned) where

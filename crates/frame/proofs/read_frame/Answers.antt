@@ -20,10 +20,10 @@ module _ (b : Start) where
   f = b.args.frame.now
 
   front : take min_frame f ≡ bits min_frame b.args.word
-  front = front-bits f b.args.word b.pre.0 b.pre.1 b.pre.2
+  front = front-bits f b.args.word b.requires.0 b.requires.1 b.requires.2
 
   sync-is : number (take 13 f) ≡ b.args.word / 2 ^ 46
-  sync-is = sync-number f b.args.word b.pre.0 b.pre.1 b.pre.2
+  sync-is = sync-number f b.args.word b.requires.0 b.requires.1 b.requires.2
 
 pub read-requires : goal.read-requires
 read-requires c = front (goal.at.read-requires c).Start
@@ -44,7 +44,7 @@ module _ (a : After-read_state-answer) where
   b = a.before.before.before.before
 
   sync-right : number (take 13 (f b)) ≡ sync_word
-  sync-right = sync-is b ∙ a.before.before.if1.left
+  sync-right = sync-is b ∙ a.before.before.if1.false
 
   state-is : state_answer a.read-state.result ≡ state_reading (number (state_in (f b)))
   state-is =
@@ -53,7 +53,7 @@ module _ (a : After-read_state-answer) where
 
   -- what is left are the questions of a time frame
   time-is : read_next b.args.due b.args.alone (f b) ≡ time_answer b.args.due b.args.alone (f b) (entry_of (f b))
-  time-is = yes-8 b.args.due b.args.alone (f b) b.pre.0 b.pre.1 sync-right
+  time-is = yes-8 b.args.due b.args.alone (f b) b.requires.0 b.requires.1 sync-right
 
 pub read_fields-requires : goal.read_fields-requires
 read_fields-requires c =

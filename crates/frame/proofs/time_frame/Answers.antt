@@ -24,10 +24,10 @@ module _ (t : After-time_part) where
   w = t.time-part.result * 4096 + t.before.before.args.day
 
   word : w ≡ number (body_of (sent_by p m))
-  word = word-is p m _ _ _ t.before.before.pre.1 t.before.encode.ensures t.time-part.ensures t.before.before.pre.2
+  word = word-is p m _ _ _ t.before.before.requires.1 t.before.encode.ensures t.time-part.ensures t.before.before.requires.2
 
   small : w < 2 ^ min_frame
-  small = rw word (body-lt (sent_by p m) (unfold sent_by in notice-legal p t.before.before.pre.0))
+  small = rw word (body-lt (sent_by p m) (unfold sent_by in notice-legal p t.before.before.requires.0))
 
 pub time_part-requires : goal.time_part-requires
 time_part-requires c = (rw c.encode-time.ensures (time-lt c.args.minute), omega arith)

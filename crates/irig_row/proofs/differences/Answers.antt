@@ -13,8 +13,8 @@ loop-i-preserved c =
     let l = c.loop-i in
     let a = c.args.a.now in
     let b = c.args.b.now in
-    ⊎_elim (λ x. (omega arith, omega (arith, x.1), omega (arith, x.1, other_place a b l.i (omega arith) (omega arith) x.0.taken)))
-    (λ x. (omega arith, omega (arith, x.1), omega (arith, x.1, same_place a b l.i (omega arith) (omega arith) x.0.left))) c.if-a-i.branch
+    ⊎_elim (λ x. (omega arith, omega (arith, x.1), omega (arith, x.1, other_place a b l.i (omega arith) (omega arith) x.0.true)))
+    (λ x. (omega arith, omega (arith, x.1), omega (arith, x.1, same_place a b l.i (omega arith) (omega arith) x.0.false))) c.if-a-i.branch
 
 pub returns : goal.returns
 returns c =

@@ -23,7 +23,7 @@ module _ (c : In-loop-k) where
   rest = all_from s (suc c.loop-k.k)
 
   is : rising c.loop-k.from (m ∷ rest) ≡ legal_messages (messages_in s)
-  is = ap (rising c.loop-k.from) (sym (some-from s c.loop-k.k (omega arith))) ∙ c.loop-k.inv.2
+  is = ap (rising c.loop-k.from) (sym (some-from s c.loop-k.k (omega arith))) ∙ c.loop-k.invariant.2
 
 pub returns-then-bytes-eq0 : goal.returns-then-bytes-eq0
 returns-then-bytes-eq0 c = sym (no_bytes c.args.bytes.now (omega arith))

@@ -28,23 +28,23 @@ module _ (r : After-read_from-part) where
 
   got : Part a.loop.due (rest a) a.loop.space r.read-from.last.1.0 r.read-from.result
   got =
-      part-read a.loop.due (rest a) _ a.loop.space r.read-from.last.1.0 r.read-from.result a.loop.inv.2 (tail (bits a) a.loop.used)
+      part-read a.loop.due (rest a) _ a.loop.space r.read-from.last.1.0 r.read-from.result a.loop.invariant.2 (tail (bits a) a.loop.used)
       r.read-from.ensures.0 r.read-from.ensures.1
 
   -- the entries are at most as many as their bits, which are there
   few : (r.read-from.result.entries ≤ r.read-from.result.used) × (a.loop.used + r.read-from.result.used ≤ length (bits a))
   few =
       let s = sized 10 a.loop.due (rest a) in
-      (omega (arith, got.entries, got.used, s.long), omega (arith, got.used, s.within, length-drop a.loop.used (bits a), a.loop.inv.0))
+      (omega (arith, got.entries, got.used, s.long), omega (arith, got.used, s.within, length-drop a.loop.used (bits a), a.loop.invariant.0))
 
   same-space : length r.read-from.last.1.0 ≡ 180
-  same-space = space-kept a.loop.due (rest a) a.loop.space r.read-from.last.1.0 r.read-from.result got a.loop.inv.2
+  same-space = space-kept a.loop.due (rest a) a.loop.space r.read-from.last.1.0 r.read-from.result got a.loop.invariant.2
 
 -- where the space is full
 module _ (c : After-struct_known-in-Refused-3-1) where
   full : (part (a rf).loop.due (rest (a rf))).refusal ≡ 5
   full =
-      out-of-space (a rf).loop.count (a rf).loop.due (rest (a rf)) _ _ rf.read-from.result (got rf) (read_all (bits (a rf))) (a rf).loop.inv.3 _
+      out-of-space (a rf).loop.count (a rf).loop.due (rest (a rf)) _ _ rf.read-from.result (got rf) (read_all (bits (a rf))) (a rf).loop.invariant.3 _
       c.in-Refused.is (omega arith)
 
   more : 0 < rf.read-from.result.used

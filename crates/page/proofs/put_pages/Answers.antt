@@ -28,10 +28,10 @@ module _ (a : At-loop-used) where
   done = a.loop.number - 1
 
   abbrev so_far : Printing done a.loop.due rest (entries_of bits)
-  so_far = a.loop.inv.3
+  so_far = a.loop.invariant.3
 
   abbrev put : Put (pages_from done 1 (map line (entries_of bits))) buffer a.loop.out a.loop.at
-  put = a.loop.inv.4
+  put = a.loop.invariant.4
 
   within : a.loop.at ≤ length a.loop.out
   within = omega (arith, put.room, put-length put)
@@ -44,10 +44,10 @@ module _ (a : At-loop-used) where
     next-within = page-within done a.loop.due rest (entries_of bits) so_far some
 
     room : 2184 ≤ length (take (length a.loop.out - a.loop.at) (drop a.loop.at a.loop.out))
-    room = next-room done a.loop.at bits buffer a.loop.out a.before.before.before.pre.1 next-within a.loop.inv.2 put
+    room = next-room done a.loop.at bits buffer a.loop.out a.before.before.before.requires.1 next-within a.loop.invariant.2 put
 
     small : a.loop.number < 2 ^ 31
-    small = omega (arith, number_small (done + 1) bits next-within, a.loop.inv.1)
+    small = omega (arith, number_small (done + 1) bits next-within, a.loop.invariant.1)
 
 -- after a page was put
 module _ (c : After-struct_known-1) where
@@ -69,10 +69,10 @@ module _ (c : After-struct_known-1) where
       ++ drop 2184 (take (length c.loop-used.out - c.loop-used.at) (drop c.loop-used.at c.loop-used.out))) (tail (bits at) c.loop-used.used)
 
   bits_left : (c.loop-used.used + c.put_page-rest.result.used ≤ length (bits at)) × (0 < c.put_page-rest.result.used)
-  bits_left = (omega (arith, after.within, length-drop c.loop-used.used (bits at), c.loop-used.inv.0), after.some (omega arith) (some at left))
+  bits_left = (omega (arith, after.within, length-drop c.loop-used.used (bits at), c.loop-used.invariant.0), after.some (omega arith) (some at left))
 
   next : done at + 1 ≡ c.loop-used.number + 1 - 1
-  next = omega (arith, c.loop-used.inv.1)
+  next = omega (arith, c.loop-used.invariant.1)
 
   -- the buffer after it
   abbrev out-after : List ℕ
@@ -83,7 +83,7 @@ module _ (c : After-struct_known-1) where
   page-put : Put (pages_from (done at + 1) 1 (map line (entries_of (bits at)))) (buffer at) out-after (c.loop-used.at + 2184)
   page-put =
       put-next-page (done at) c.loop-used.due (rest at) (entries_of (bits at)) (so_far at) (some at left) c.loop-used.number c.loop-used.at (buffer at) c.loop-used.out _
-      (omega (arith, c.loop-used.inv.1)) (omega (arith, small at left)) (put at) (room at left) page-is
+      (omega (arith, c.loop-used.invariant.1)) (omega (arith, small at left)) (put at) (room at left) page-is
 
   printed : Printing (done at + 1) c.put_page-rest.result.due
       (drop (c.loop-used.used + c.put_page-rest.result.used) (bits at)) (entries_of (bits at))

@@ -18,16 +18,16 @@ module _ (a : At-loop-i) where
   es = entries_in a.before.before.before.args.entries.now
 
   few : length es ≤ 10
-  few = count-few a.before.before.before.args.entries.now a.before.before.before.pre.1
+  few = count-few a.before.before.before.args.entries.now a.before.before.before.requires.1
 
   fit : Each Fits es
-  fit = a.before.before.before.pre.2
+  fit = a.before.before.before.requires.2
 
   room : a.loop.i < 10 → 42 ≤ length (take (length a.loop.out - a.loop.i * 42) (drop (a.loop.i * 42) a.loop.out))
-  room h = omega (arith, rest-length a.loop.inv.1, a.before.before.before.pre.3)
+  room h = omega (arith, rest-length a.loop.invariant.1, a.before.before.before.requires.3)
 
   within : a.loop.i * 42 ≤ length a.loop.out
-  within = omega (arith, a.loop.inv.1.room, put-length a.loop.inv.1)
+  within = omega (arith, a.loop.invariant.1.room, put-length a.loop.invariant.1)
 
 pub loop-i-init : goal.loop-i-init
 loop-i-init c = (omega arith, put-none 10 _ c.args.out.now)

@@ -40,17 +40,17 @@ module _ (a : At-loop-i) where
 
   so_far : RestAfter (a.loop.i * 10) due bits (rest a.loop.used a.loop.next)
   so_far =
-      subst (RestAfter (a.loop.i * 10) due bits) (sym a.loop.inv.2)
-      (rest_from_lem (a.loop.i * 10) due bits a.before.before.before.before.pre.0)
+      subst (RestAfter (a.loop.i * 10) due bits) (sym a.loop.invariant.2)
+      (rest_from_lem (a.loop.i * 10) due bits a.before.before.before.before.requires.0)
 
   abbrev put : Put (lines_text (a.loop.i * 10) (take (a.loop.i * 10) es)) buffer a.loop.out (a.loop.i * 420)
-  put = a.loop.inv.3
+  put = a.loop.invariant.3
 
   within : a.loop.i * 420 ≤ length a.loop.out
   within = omega (arith, put.room, put-length put)
 
   room : a.loop.i < 5 → 420 ≤ length (take (length a.loop.out - a.loop.i * 420) (drop (a.loop.i * 420) a.loop.out))
-  room h = omega (arith, rest-length put, a.before.before.before.before.pre.1)
+  room h = omega (arith, rest-length put, a.before.before.before.before.requires.1)
 
 -- after a part was read
 module _ (r : After-read_from-part) where
@@ -62,11 +62,11 @@ module _ (r : After-read_from-part) where
 
   got : Part a.loop.next (left a) a.loop.space later r.read-from.result
   got =
-      part-read a.loop.next (left a) _ a.loop.space later r.read-from.result a.loop.inv.1 (tail (bits a) a.loop.used)
+      part-read a.loop.next (left a) _ a.loop.space later r.read-from.result a.loop.invariant.1 (tail (bits a) a.loop.used)
       r.read-from.ensures.0 r.read-from.ensures.1
 
   same-space : length later ≡ 180
-  same-space = space-kept a.loop.next (left a) a.loop.space later r.read-from.result got a.loop.inv.1
+  same-space = space-kept a.loop.next (left a) a.loop.space later r.read-from.result got a.loop.invariant.1
 
   abbrev front : List ℕ
   front = take (r.read-from.result.entries * 18) later
@@ -135,7 +135,7 @@ loop-i-preserved c =
     let d = (goal.at.loop-i-preserved c).After-read_from-part in
     let b = a d in
     let i = b.loop.i in
-    let more = rest_more (i * 10) (due b) (bits b) b.before.before.before.before.pre.0 10 _ _ _ _ b.loop.inv.2 (got d).used (got d).due in (
+    let more = rest_more (i * 10) (due b) (bits b) b.before.before.before.before.requires.0 10 _ _ _ _ b.loop.invariant.2 (got d).used (got d).due in (
       omega arith,
       same-space d,
       more ∙ ap (λ (k : ℕ). rest_from k (due b) (bits b)) (ten i),

@@ -25,7 +25,7 @@ module _ (c : After-copy) where
   out₁ = c.copy.new.out
 
   put₁ : Put (replicate 31 32) out₀ out₁ 31
-  put₁ = copied 31 refl (omega (arith, start.pre)) c.copy.ensures.1
+  put₁ = copied 31 refl (omega (arith, start.requires)) c.copy.ensures.1
 
 -- after the second
 module _ (c : After-copy-2) where
@@ -37,7 +37,7 @@ module _ (c : After-copy-2) where
 
   put₂ : Put text₂ (out₀ c₁) out₂ 42
   put₂ =
-      put-more (put₁ c₁) (copied 11 (search rules) (omega (arith, rest-length (put₁ c₁), (start c₁).pre)) c.copy-2.ensures.1)
+      put-more (put₁ c₁) (copied 11 (search rules) (omega (arith, rest-length (put₁ c₁), (start c₁).requires)) c.copy-2.ensures.1)
 
 pub returns : goal.returns
 unfolding blanks
@@ -47,5 +47,5 @@ returns c =
     let text-is =
     head-made (start b).args.number (replicate 31 32) _ _ (omega arith) refl c.number_column-column.ensures c.line_of-dashes.ensures in
     let size : length c.line_of-dashes.result ≡ 42 = search rules in
-    let p = put-more (put₂ d) (copied 42 size (omega (arith, rest-length (put₂ d), (start b).pre)) c.copy-3.ensures.1) in
+    let p = put-more (put₂ d) (copied 42 size (omega (arith, rest-length (put₂ d), (start b).requires)) c.copy-3.ensures.1) in
     p.is ∙ ap (λ (text : List ℕ). text ++ drop 84 (out₀ b)) text-is

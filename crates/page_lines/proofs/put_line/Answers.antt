@@ -51,7 +51,7 @@ module _ (c : After-copy) where
   out₁ = c.copy.new.out
 
   put₁ : Put text₁ out₀ out₁ 9
-  put₁ = copied 9 (search rules) (omega (arith, (start made₁).pre.2)) c.copy.ensures.1
+  put₁ = copied 9 (search rules) (omega (arith, (start made₁).requires.2)) c.copy.ensures.1
 
 -- after the second
 module _ (c : After-copy-2) where
@@ -64,7 +64,7 @@ module _ (c : After-copy-2) where
   put₂ : Put text₂ (out₀ c₁) out₂ 26
   put₂ =
       put-more (put₁ c₁) (copied 17 (search rules)
-      (omega (arith, rest-length (put₁ c₁), (start (made₁ c₁)).pre.2)) c.copy-2.ensures.1)
+      (omega (arith, rest-length (put₁ c₁), (start (made₁ c₁)).requires.2)) c.copy-2.ensures.1)
 
 -- after the third
 module _ (c : After-copy-3) where
@@ -80,7 +80,7 @@ module _ (c : After-copy-3) where
   put₃ : Put text₃ (out₀ (c₁ c₂)) out₃ 29
   put₃ =
       put-more (put₂ c₂) (copied 3 (search rules)
-      (omega (arith, rest-length (put₂ c₂), (start made₃).pre.2)) c.copy-3.ensures.1)
+      (omega (arith, rest-length (put₂ c₂), (start made₃).requires.2)) c.copy-3.ensures.1)
 
 -- before the fourth
 module _ (c : After-copy-arg-4-1) where
@@ -88,7 +88,7 @@ module _ (c : After-copy-arg-4-1) where
   last-size = search rules
 
   last-room : 13 ≤ length (take (length (out₃ c₃) - 29) (drop 29 (out₃ c₃)))
-  last-room = omega (arith, rest-length (put₃ c₃), (start (made₃ c₃)).pre.2)
+  last-room = omega (arith, rest-length (put₃ c₃), (start (made₃ c₃)).requires.2)
 
 pub minute_column-first-requires : goal.minute_column-first-requires
 unfolding entry_in

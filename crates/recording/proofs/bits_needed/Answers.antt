@@ -16,5 +16,5 @@ overflow_add-sum c =
 pub returns : goal.returns
 returns c =
     let a = c.args in
-    ⊎_elim (λ x. omega (arith, x.1.ensures, x.2, seconds-over a.plan a.first a.count c.requires.0 x.0.taken))
-    (λ x. omega (arith, x.1, seconds-in-day a.plan a.first a.count (omega (arith, x.0.left)))) c.if-last-first.branch
+    ⊎_elim (λ x. omega (arith, x.1.ensures, x.2, seconds-over a.plan a.first a.count c.requires.0 x.0.true))
+    (λ x. omega (arith, x.1, seconds-in-day a.plan a.first a.count (omega (arith, x.0.false)))) c.if-last-first.branch

@@ -32,11 +32,11 @@ module _ (a : Start) where
   m = a.args.minute
 
   messages-ok : legal_messages (messages_in s) ≡ true
-  messages-ok = messages-legal (schedule_of p s) a.pre.0
+  messages-ok = messages-legal (schedule_of p s) a.requires.0
 
   notice : (sent_by p m).notice ≤ 1
   unfolding sent_by
-  notice = notice-legal p (plan-legal (schedule_of p s) a.pre.0)
+  notice = notice-legal p (plan-legal (schedule_of p s) a.requires.0)
 
   -- where a message is due
   module _ (e : m ≡ a.args.due) where
@@ -44,10 +44,10 @@ module _ (a : Start) where
     d = (message_at s a.args.k).payload
 
     inside : a.args.k < length s / message_size
-    inside = index s messages-ok m a.args.k a.args.due a.pre.2 a.pre.1 e
+    inside = index s messages-ok m a.args.k a.args.due a.requires.2 a.requires.1 e
 
     small : d < 2 ^ 42
-    small = its-data s messages-ok m a.args.k a.args.due a.pre.2 a.pre.1 e
+    small = its-data s messages-ok m a.args.k a.args.due a.requires.2 a.requires.1 e
 
 pub payload_at-requires : goal.payload_at-requires
 payload_at-requires c = omega (arith, inside c c.if-minute-due.true)

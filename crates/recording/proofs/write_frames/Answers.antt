@@ -52,10 +52,10 @@ module _ (c : In-loop-i) where
   out₀ = c.args.out.now
 
   legal : legal_schedule q ≡ true
-  legal = start.pre.0
+  legal = start.requires.0
 
   range : m + i < minute_count
-  range = omega (arith, start.pre.2, c.loop-i-test.true)
+  range = omega (arith, start.requires.2, c.loop-i-test.true)
 
   next-is : NextIs s (m + i) c.loop-i.k c.loop-i.due
   next-is = c.loop-i.invariant.5
@@ -68,7 +68,7 @@ module _ (c : In-loop-i) where
         c.loop-i.invariant.1,
         seconds-snoc p m i,
         seconds-mono p m (suc i) c.args.count c.loop-i-test.true,
-        start.pre.3,
+        start.requires.3,
       )
 
   -- the buffer when the part comes back as ys
@@ -89,12 +89,12 @@ module _ (j : Joined-minute-day) where
   turn = j.before
 
   day-now : j.if1.day ≡ (m turn + i turn) / 1440
-  day-now = ⊎_elim (λ x. x.2) (λ x. x.1 ∙ sym x.0.left) j.if1.came
+  day-now = ⊎_elim (λ x. x.2) (λ x. x.1 ∙ sym x.0.false) j.if1.branch
 
   word-now : j.if1.word ≡ day_word (p turn) j.if1.day
   word-now =
       ⊎_elim (λ x. x.3 ∙ x.1.ensures ∙ ap (day_word (p turn)) (sym x.2))
-      (λ x. x.2 ∙ turn.before.loop.inv.4 ∙ ap (day_word (p turn)) (sym x.1)) j.if1.came
+      (λ x. x.2 ∙ turn.before.loop.invariant.4 ∙ ap (day_word (p turn)) (sym x.1)) j.if1.branch
 
 -- where the next message is the one after the minute
 moved : {s : List ℕ} {m n k d k' d' : ℕ} → m ≡ n → k' ≡ k → d' ≡ d → NextIs s m k d → NextIs s n k' d'
@@ -113,9 +113,9 @@ module _ (j : Joined-minute-due) where
       let a = add_assoc (m now) (i now) 1 in
       ⊎_elim
       (λ x. moved a x.2 x.3
-      (step-on (s now) ok (m now + i now) now.before.loop.k now.before.loop.due (next-is now) (range now) x.0.taken x.1.result x.1.ensures))
-      (λ x. moved a x.1 x.2 (step_past (s now) ok (m now + i now) now.before.loop.k now.before.loop.due (next-is now) x.0.left))
-      j.if2.came
+      (step-on (s now) ok (m now + i now) now.before.loop.k now.before.loop.due (next-is now) (range now) x.0.true x.1.result x.1.ensures))
+      (λ x. moved a x.1 x.2 (step_past (s now) ok (m now + i now) now.before.loop.k now.before.loop.due (next-is now) x.0.false))
+      j.if2.branch
 
 pub day_word-word-requires : goal.day_word-word-requires
 day_word-word-requires c =
@@ -147,7 +147,7 @@ overflow_add-minute c = omega (arith, c.requires.2, c.loop-i-test.true)
 pub day_word-word-requires-then-minute-day : goal.day_word-word-requires-then-minute-day
 day_word-word-requires-then-minute-day c =
     let d = (goal.at.day_word-word-requires-then-minute-day c).In-loop-i in
-    (plan-legal (q d) (legal d), omega (arith, c.pre.2, c.loop-i-test.true))
+    (plan-legal (q d) (legal d), omega (arith, c.requires.2, c.loop-i-test.true))
 
 pub slice_bounds-write_next-count : goal.slice_bounds-write_next-count
 slice_bounds-write_next-count c =
@@ -175,7 +175,7 @@ pub overflow_add-k : goal.overflow_add-k
 overflow_add-k c =
     let u = (goal.at.overflow_add-k c).In-loop-i in
     let d = turn-of c in
-    omega (arith, d.before.loop.inv.5.inside, index (s u) (messages-legal (q u) (legal u)) (m u + i u) d.before.loop.k d.before.loop.due (next-is u) (range u) c.if-minute-due.true)
+    omega (arith, d.before.loop.invariant.5.inside, index (s u) (messages-legal (q u) (legal u)) (m u + i u) d.before.loop.k d.before.loop.due (next-is u) (range u) c.if-minute-due.true)
 
 pub next_minute-due-requires-then-minute-due : goal.next_minute-due-requires-then-minute-due
 next_minute-due-requires-then-minute-due c =
@@ -186,10 +186,10 @@ next_minute-due-requires-then-minute-due c =
     )
 
 pub overflow_add-i : goal.overflow_add-i
-overflow_add-i c = omega (arith, (turn-of c).loop-test.taken)
+overflow_add-i c = omega (arith, (turn-of c).loop-test.true)
 
 pub loop-i-smaller : goal.loop-i-smaller
-loop-i-smaller c = omega (arith, (turn-of c).loop-test.taken)
+loop-i-smaller c = omega (arith, (turn-of c).loop-test.true)
 
 pub loop-i-preserved : goal.loop-i-preserved
 loop-i-preserved c =

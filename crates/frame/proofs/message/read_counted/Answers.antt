@@ -59,7 +59,7 @@ module _ (a : After-ends_right) where
 
   q11 : (e g).minute < minute_count
   unfolding message_in message_entry
-  q11 = a.before.before.if2.left
+  q11 = a.before.before.if2.false
 
   seconds-are : a.before.seconds-for.result ≡ seconds_for (l g) (last_of_month (m g))
   seconds-are = a.before.seconds-for.ensures
@@ -74,10 +74,10 @@ module _ (b : After-echo_bit) where
   a' = b.before.before
 
   yes-13 : question13 (one (g a')) (f (g a')) (e (g a')) ≡ true
-  yes-13 = sym (q13 a') ∙ not-false _ b.before.if3.left
+  yes-13 = sym (q13 a') ∙ not-false _ b.before.if3.false
 
   echo-is : get_or (f (g a')) 19 0 ≡ b.echo-bit.result
-  echo-is = echo_of (f (g a')) (z (g a')).args.word (z (g a')).pre ∙ sym b.echo-bit.ensures
+  echo-is = echo_of (f (g a')) (z (g a')).args.word (z (g a')).requires ∙ sym b.echo-bit.ensures
 
 pub returns-then-not-is_known : goal.returns-then-not-is_known
 returns-then-not-is_known c =
@@ -117,6 +117,6 @@ returns c =
     ap entry
     (same-entry (m k) (l k) _ _ _ (f k)
     a.before.seconds-for.ensures
-    (c.notice_bit-notice.ensures ∙ notice-bit w ∙ sym (notice-of (f k) w (z k).pre))
-    (c.message_data-payload.ensures ∙ sym (data_of (f k) w (z k).pre)))
+    (c.notice_bit-notice.ensures ∙ notice-bit w ∙ sym (notice-of (f k) w (z k).requires))
+    (c.message_data-payload.ensures ∙ sym (data_of (f k) w (z k).requires)))
     ∙ sym (yes-14 (m k) (l k) (one k) (f k) (e k) (q20 (o a)) (q11 a) (yes-13 d) (echo-is d ∙ c.if-echo_bit-minute.false))
