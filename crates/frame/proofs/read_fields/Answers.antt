@@ -77,7 +77,7 @@ returns-then-is_due c =
     let e : Entry = at c.decode-time.result in
     let e-is : entry_of f ≡ e = is ∙ ap at (sym (c.decode-time.ensures ∙ ap (λ (n : ℕ). reading (bits 31 n)) c.time_word-received.ensures)) in
     let row_ok : e.row < unassigned = rw (← row-found.0) row-found.1 in
-    let q13 : c.ends_right.result ≡ question13 (one (c c)) (f (c c)) e = rw (← c.length_for-length.ensures) c.ends_right.ensures in
+    let q13 : c.ends_right.result ≡ question13 one f e = rw (← c.length_for-length.ensures) c.ends_right.ensures in
     rw e-is
     (ap entry
     (same-entry x c.decode-time.result c.args.state c.length_for-length.result row c.notice_bit-notice.result c.echo_right-echo.result
@@ -98,7 +98,7 @@ returns-then-ends_right c =
     let e : Entry = at c.decode-time.result in
     let e-is : entry_of f ≡ e = is ∙ ap at (sym (c.decode-time.ensures ∙ ap (λ (n : ℕ). reading (bits 31 n)) c.time_word-received.ensures)) in
     let row_ok : e.row < unassigned = rw (← row-found.0) row-found.1 in
-    let q13 : c.ends_right.result ≡ question13 (one (c c)) (f (c c)) e = rw (← c.length_for-length.ensures) c.ends_right.ensures in
+    let q13 : c.ends_right.result ≡ question13 one f e = rw (← c.length_for-length.ensures) c.ends_right.ensures in
     rw e-is
     (sym (no-14 due one f e q9 row_ok c.if-minute-ge-MINUTES.false (sym q13 ∙ c.if-ends_right.true) (sym c.is_due.ensures ∙ c.if-is_due.false)))
 
@@ -116,5 +116,5 @@ returns c =
     let e : Entry = at c.decode-time.result in
     let e-is : entry_of f ≡ e = is ∙ ap at (sym (c.decode-time.ensures ∙ ap (λ (n : ℕ). reading (bits 31 n)) c.time_word-received.ensures)) in
     let row_ok : e.row < unassigned = rw (← row-found.0) row-found.1 in
-    let q13 : c.ends_right.result ≡ question13 (one (c c)) (f (c c)) e = rw (← c.length_for-length.ensures) c.ends_right.ensures in
+    let q13 : c.ends_right.result ≡ question13 one f e = rw (← c.length_for-length.ensures) c.ends_right.ensures in
     rw e-is (sym (no-13 due one f e q9 row_ok c.if-minute-ge-MINUTES.false (sym q13 ∙ c.if-ends_right.false)))

@@ -51,6 +51,7 @@ ends_right-requires c =
     rw c.seconds_for-length.ensures (seconds-long _ _)
 
 pub returns-then-not-ends_right : goal.returns-then-not-ends_right
+unfolding message_in message_entry
 returns-then-not-ends_right c =
     let f : List ℕ = c.args.frame.now in
     let one : Bool = c.args.alone in
@@ -58,9 +59,9 @@ returns-then-not-ends_right c =
     let l : ℕ = c.args.leap in
     let e : Entry = message_in (Minute m l) f in
     let q20 : question20 (Minute m l) ≡ true = sym c.is_known.ensures ∙ c.if-not-is_known.false in
-    let q11 : e.minute < minute_count = unfold message_in message_entry in c.if-minute-ge-MINUTES.false in
+    let q11 : e.minute < minute_count = c.if-minute-ge-MINUTES.false in
     let seconds-are : c.seconds_for-length.result ≡ seconds_for l (last_of_month m) = c.seconds_for-length.ensures in
-    let q13 : c.ends_right.result ≡ question13 one f e = unfold message_in message_entry in rw (← seconds-are) c.ends_right.ensures in
+    let q13 : c.ends_right.result ≡ question13 one f e = rw (← seconds-are) c.ends_right.ensures in
     sym (no-13 m l one f e q20 q11 (sym q13 ∙ c.if-not-ends_right.true))
 
 pub returns-then-echo_bit-minute : goal.returns-then-echo_bit-minute
@@ -75,8 +76,8 @@ returns-then-echo_bit-minute c =
     let q11 : e.minute < minute_count = unfold message_in message_entry in c.if-minute-ge-MINUTES.false in
     let seconds-are : c.seconds_for-length.result ≡ seconds_for l (last_of_month m) = c.seconds_for-length.ensures in
     let q13 : c.ends_right.result ≡ question13 one f e = unfold message_in message_entry in rw (← seconds-are) c.ends_right.ensures in
-    let yes-13 : question13 (one (c c)) (f (c c)) (e (c c)) ≡ true = sym q13 ∙ not-false _ c.if-not-ends_right.false in
-    let echo-is : get_or (f (c c)) 19 0 ≡ c.echo_bit.result = echo_of (f (c c)) (c (c c)).args.word (c (c c)).requires ∙ sym c.echo_bit.ensures in
+    let yes-13 : question13 one f e ≡ true = sym q13 ∙ c.if-not-ends_right.false in
+    let echo-is : get_or f 19 0 ≡ c.echo_bit.result = echo_of f c.args.word c.requires ∙ sym c.echo_bit.ensures in
     sym (no-14 m l one f e q20 q11 yes-13 (λ h. c.if-echo_bit-minute.true (sym echo-is ∙ h)))
 
 pub returns : goal.returns
@@ -91,8 +92,8 @@ returns c =
     let q11 : e.minute < minute_count = unfold message_in message_entry in c.if-minute-ge-MINUTES.false in
     let seconds-are : c.seconds_for-length.result ≡ seconds_for l (last_of_month m) = c.seconds_for-length.ensures in
     let q13 : c.ends_right.result ≡ question13 one f e = unfold message_in message_entry in rw (← seconds-are) c.ends_right.ensures in
-    let yes-13 : question13 (one (c c)) (f (c c)) (e (c c)) ≡ true = sym q13 ∙ not-false _ c.if-not-ends_right.false in
-    let echo-is : get_or (f (c c)) 19 0 ≡ c.echo_bit.result = echo_of (f (c c)) (c (c c)).args.word (c (c c)).requires ∙ sym c.echo_bit.ensures in
+    let yes-13 : question13 one f e ≡ true = sym q13 ∙ c.if-not-ends_right.false in
+    let echo-is : get_or f 19 0 ≡ c.echo_bit.result = echo_of f c.args.word c.requires ∙ sym c.echo_bit.ensures in
     let w = c.args.word in
     ap entry
     (same-entry m l _ _ _ f
