@@ -36,6 +36,7 @@ loop-used-init c =
     )
 
 pub shape_of-entries-in-Halt : goal.shape_of-entries-in-Halt
+unfolding one_outcome
 shape_of-entries-in-Halt c =
     let bits : List ℕ = c.args.bits.now in
     let rest : List ℕ = drop c.loop-used.used bits in
@@ -44,15 +45,16 @@ shape_of-entries-in-Halt c =
     let answer : Answer = read_entry c.loop-used.next false (length part) rest in
     let progress-is : step_numbers c.read_entry-step.result ≡ progress c.loop-used.next answer = c.read_entry-step.ensures.0
     ∙ ap (λ (f : List ℕ). progress c.loop-used.next (read_entry c.loop-used.next false (length part) f)) (tail bits c.loop-used.used) in
-    let later : List ℕ = c.read_entry-step.last.1.1.1.0 in
+    let later : List ℕ = c.read_entry-step.new.out in
     let later-is : later ≡ (one_outcome part answer).buffer = c.read_entry-step.ensures.1
     ∙ ap (λ (f : List ℕ). (one_outcome part (read_entry c.loop-used.next false (length part) f)).buffer) (tail bits c.loop-used.used) in
     let question : ℕ = refusal_number c.in-Halt.refusal in
     let refused-is : answer ≡ refused question = halted c.loop-used.next answer question (sym (ap step_numbers c.in-Halt.is) ∙ progress-is) in
-    let kept : take from c.loop-used.entries ++ (later ++ drop (length c.loop-used.entries - from) (drop from c.loop-used.entries)) ≡ c.loop-used.entries = unfold one_outcome in same_back c.loop-used.entries later from (rw refused-is at later-is) in
+    let kept : take from c.loop-used.entries ++ (later ++ drop (length c.loop-used.entries - from) (drop from c.loop-used.entries)) ≡ c.loop-used.entries = same_back c.loop-used.entries later from (rw refused-is at later-is) in
     ap length kept ∙ c.loop-used.invariant.2
 
 pub returns-in-Halt : goal.returns-in-Halt
+unfolding stop one_outcome
 returns-in-Halt c =
     let bits : List ℕ = c.args.bits.now in
     let buffer : List ℕ = c.args.entries.now in
@@ -64,7 +66,7 @@ returns-in-Halt c =
     let answer : Answer = read_entry c.loop-used.next false (length part) rest in
     let part_length : length part ≡ length buffer - from = rw (tail c.loop-used.entries from) (omega (arith, length-drop from c.loop-used.entries, c.loop-used.invariant.2)) in
     let free-slots : length part / entry_size ≡ slots = omega (arith, part_length, c.loop-used.invariant.1) in
-    let stopped-at : (n : ℕ) (later : List ℕ) → later ≡ c.loop-used.entries → read_frames slots c.loop-used.next rest ≡ stop c.loop-used.next n → (◌≡◌ {A = Outcome} (record { count = c.loop-used.count; used = c.loop-used.used; refusal = n; buffer = later }) (read_from first buffer bits)) × (c.loop-used.next ≡ due_from first buffer bits) = unfold stop in (λ n later same e. (
+    let stopped-at : (n : ℕ) (later : List ℕ) → later ≡ c.loop-used.entries → read_frames slots c.loop-used.next rest ≡ stop c.loop-used.next n → (◌≡◌ {A = Outcome} (record { count = c.loop-used.count; used = c.loop-used.used; refusal = n; buffer = later }) (read_from first buffer bits)) × (c.loop-used.next ≡ due_from first buffer bits) = (λ n later same e. (
       rw same
           (sym (resume-stop c.loop-used.count c.loop-used.used c.loop-used.entries c.loop-used.next n)
           ∙ ap (resume c.loop-used.count c.loop-used.used c.loop-used.entries) (sym e)
@@ -74,12 +76,12 @@ returns-in-Halt c =
     let some : 0 < length rest = omega (arith, length-drop c.loop-used.used bits) in
     let progress-is : step_numbers c.read_entry-step.result ≡ progress c.loop-used.next answer = c.read_entry-step.ensures.0
     ∙ ap (λ (f : List ℕ). progress c.loop-used.next (read_entry c.loop-used.next false (length part) f)) (tail bits c.loop-used.used) in
-    let later : List ℕ = c.read_entry-step.last.1.1.1.0 in
+    let later : List ℕ = c.read_entry-step.new.out in
     let later-is : later ≡ (one_outcome part answer).buffer = c.read_entry-step.ensures.1
     ∙ ap (λ (f : List ℕ). (one_outcome part (read_entry c.loop-used.next false (length part) f)).buffer) (tail bits c.loop-used.used) in
     let question : ℕ = refusal_number c.in-Halt.refusal in
     let refused-is : answer ≡ refused question = halted c.loop-used.next answer question (sym (ap step_numbers c.in-Halt.is) ∙ progress-is) in
-    let kept : take from c.loop-used.entries ++ (later ++ drop (length c.loop-used.entries - from) (drop from c.loop-used.entries)) ≡ c.loop-used.entries = unfold one_outcome in same_back c.loop-used.entries later from (rw refused-is at later-is) in
+    let kept : take from c.loop-used.entries ++ (later ++ drop (length c.loop-used.entries - from) (drop from c.loop-used.entries)) ≡ c.loop-used.entries = same_back c.loop-used.entries later from (rw refused-is at later-is) in
     stopped-at question _ kept
     (rw (← free-slots) (refused-step (length part) c.loop-used.next rest some question refused-is))
 
@@ -92,14 +94,16 @@ overflow_add-used c =
     let answer : Answer = read_entry c.loop-used.next false (length part) rest in
     let progress-is : step_numbers c.read_entry-step.result ≡ progress c.loop-used.next answer = c.read_entry-step.ensures.0
     ∙ ap (λ (f : List ℕ). progress c.loop-used.next (read_entry c.loop-used.next false (length part) f)) (tail bits c.loop-used.used) in
-    let free : (e : Entry) → (is : answer (a r) ≡ entry e) → entry_size ≤ length part = λ e is. room_of (length part) c.loop-used.next rest e is in
-    let entry-is : (e : Entry) → (is : answer (a r) ≡ entry e) → read_next c.loop-used.next false rest ≡ entry e = λ e is. sym (yes-5 c.loop-used.next false (length part) rest free) ∙ is in
-    let fine : (e : Entry) → (is : answer (a r) ≡ entry e) → Accepted rest e = λ e is. accepted c.loop-used.next false rest e entry-is in
-    let left : (e : Entry) → (is : answer (a r) ≡ entry e) → c.loop-used.used + e.seconds ≤ length bits = λ e is. omega (arith, fine.enough-left, length-drop c.loop-used.used bits, c.loop-used.invariant.0) in
     let state : Due = Minute c.in-Advance.minute c.in-Advance.leap in
     let went : Advanced c.loop-used.next answer c.in-Advance.length state = advanced c.loop-used.next answer c.in-Advance.length state
     (sym (ap step_numbers c.in-Advance.is) ∙ progress-is) in
-    omega (arith, went.bits, left went.true went.is)
+    let e : Entry = went.taken in
+    let is : answer ≡ entry e = went.is in
+    let free : entry_size ≤ length part = room_of (length part) c.loop-used.next rest e is in
+    let entry-is : read_next c.loop-used.next false rest ≡ entry e = sym (yes-5 c.loop-used.next false (length part) rest free) ∙ is in
+    let fine : Accepted rest e = accepted c.loop-used.next false rest e entry-is in
+    let left : c.loop-used.used + e.seconds ≤ length bits = omega (arith, fine.enough-left, length-drop c.loop-used.used bits, c.loop-used.invariant.0) in
+    omega (arith, went.bits, left)
 
 pub loop-used-smaller : goal.loop-used-smaller
 loop-used-smaller c =
@@ -110,16 +114,19 @@ loop-used-smaller c =
     let answer : Answer = read_entry c.loop-used.next false (length part) rest in
     let progress-is : step_numbers c.read_entry-step.result ≡ progress c.loop-used.next answer = c.read_entry-step.ensures.0
     ∙ ap (λ (f : List ℕ). progress c.loop-used.next (read_entry c.loop-used.next false (length part) f)) (tail bits c.loop-used.used) in
-    let free : (e : Entry) → (is : answer (a r) ≡ entry e) → entry_size ≤ length part = λ e is. room_of (length part) c.loop-used.next rest e is in
-    let entry-is : (e : Entry) → (is : answer (a r) ≡ entry e) → read_next c.loop-used.next false rest ≡ entry e = λ e is. sym (yes-5 c.loop-used.next false (length part) rest free) ∙ is in
-    let fine : (e : Entry) → (is : answer (a r) ≡ entry e) → Accepted rest e = λ e is. accepted c.loop-used.next false rest e entry-is in
-    let left : (e : Entry) → (is : answer (a r) ≡ entry e) → c.loop-used.used + e.seconds ≤ length bits = λ e is. omega (arith, fine.enough-left, length-drop c.loop-used.used bits, c.loop-used.invariant.0) in
     let state : Due = Minute c.in-Advance.minute c.in-Advance.leap in
     let went : Advanced c.loop-used.next answer c.in-Advance.length state = advanced c.loop-used.next answer c.in-Advance.length state
     (sym (ap step_numbers c.in-Advance.is) ∙ progress-is) in
-    omega (arith, went.bits, left went.true went.is, (fine went.true went.is).long)
+    let e : Entry = went.taken in
+    let is : answer ≡ entry e = went.is in
+    let free : entry_size ≤ length part = room_of (length part) c.loop-used.next rest e is in
+    let entry-is : read_next c.loop-used.next false rest ≡ entry e = sym (yes-5 c.loop-used.next false (length part) rest free) ∙ is in
+    let fine : Accepted rest e = accepted c.loop-used.next false rest e entry-is in
+    let left : c.loop-used.used + e.seconds ≤ length bits = omega (arith, fine.enough-left, length-drop c.loop-used.used bits, c.loop-used.invariant.0) in
+    omega (arith, went.bits, left, fine.long)
 
 pub loop-used-preserved : goal.loop-used-preserved
+unfolding one_outcome
 loop-used-preserved c =
     let bits : List ℕ = c.args.bits.now in
     let buffer : List ℕ = c.args.entries.now in
@@ -133,50 +140,50 @@ loop-used-preserved c =
     let some : 0 < length rest = omega (arith, length-drop c.loop-used.used bits) in
     let progress-is : step_numbers c.read_entry-step.result ≡ progress c.loop-used.next answer = c.read_entry-step.ensures.0
     ∙ ap (λ (f : List ℕ). progress c.loop-used.next (read_entry c.loop-used.next false (length part) f)) (tail bits c.loop-used.used) in
-    let later : List ℕ = c.read_entry-step.last.1.1.1.0 in
+    let later : List ℕ = c.read_entry-step.new.out in
     let later-is : later ≡ (one_outcome part answer).buffer = c.read_entry-step.ensures.1
     ∙ ap (λ (f : List ℕ). (one_outcome part (read_entry c.loop-used.next false (length part) f)).buffer) (tail bits c.loop-used.used) in
-    let free : (e : Entry) → (is : answer (a r) ≡ entry e) → entry_size ≤ length part = λ e is. room_of (length part) c.loop-used.next rest e is in
-    let room : (e : Entry) → (is : answer (a r) ≡ entry e) → from + entry_size ≤ length c.loop-used.entries = λ e is. omega (arith, free, part_length, c.loop-used.invariant.2) in
-    let entry-is : (e : Entry) → (is : answer (a r) ≡ entry e) → read_next c.loop-used.next false rest ≡ entry e = λ e is. sym (yes-5 c.loop-used.next false (length part) rest free) ∙ is in
-    let fine : (e : Entry) → (is : answer (a r) ≡ entry e) → Accepted rest e = λ e is. accepted c.loop-used.next false rest e entry-is in
-    let left : (e : Entry) → (is : answer (a r) ≡ entry e) → c.loop-used.used + e.seconds ≤ length bits = λ e is. omega (arith, fine.enough-left, length-drop c.loop-used.used bits, c.loop-used.invariant.0) in
-    let fewer : (e : Entry) → (is : answer (a r) ≡ entry e) → ℕ = λ e is. length buffer / entry_size - (c.loop-used.count + 1) in
-    let one-slot : (e : Entry) → (is : answer (a r) ≡ entry e) → slots ≡ suc fewer = λ e is. omega (arith, room, c.loop-used.invariant.2) in
-    let put_is : (e : Entry) → (is : answer (a r) ≡ entry e) → (ys : List ℕ) → ys ≡ (one_outcome part answer).buffer → ys ≡ entry_bytes e ++ drop entry_size part = unfold one_outcome in (λ e is ys h. rw is at h) in
-    let again : (e : Entry) → (is : answer (a r) ≡ entry e) → (n : ℕ) → n ≡ e.seconds → (d : Due) → d ≡ after c.loop-used.next e → (ys : List ℕ) → ys ≡ (one_outcome part answer).buffer → invariant-loop bits buffer 0 0 first (take from c.loop-used.entries ++ (ys ++ drop (length c.loop-used.entries - from) (drop from c.loop-used.entries))) (c.loop-used.used + n) (c.loop-used.count + 1) d = λ e is n en d ed ys h. (
-      rw en left,
-      omega (arith, room, c.loop-used.invariant.2),
-      put-length c.loop-used.entries ys from e room (put_is ys h) ∙ c.loop-used.invariant.2,
-      turn fewer c.loop-used.count c.loop-used.used n c.loop-used.next d bits c.loop-used.entries ys e (read_from first buffer bits)
-          en ed some entry-is room (put_is ys h)
-          (ap (λ (s : ℕ). resume c.loop-used.count c.loop-used.used c.loop-used.entries (read_frames s c.loop-used.next rest)) (sym one-slot) ∙ c.loop-used.invariant.3),
-      turn-due fewer c.loop-used.used n c.loop-used.next d (due_from first buffer bits) bits e en ed
-          some entry-is (rw one-slot at c.loop-used.invariant.4),
-    ) in
     let state : Due = Minute c.in-Advance.minute c.in-Advance.leap in
     let went : Advanced c.loop-used.next answer c.in-Advance.length state = advanced c.loop-used.next answer c.in-Advance.length state
     (sym (ap step_numbers c.in-Advance.is) ∙ progress-is) in
-    again went.true went.is _ went.bits _ went.next later later-is
+    let e : Entry = went.taken in
+    let is : answer ≡ entry e = went.is in
+    let free : entry_size ≤ length part = room_of (length part) c.loop-used.next rest e is in
+    let room : from + entry_size ≤ length c.loop-used.entries = omega (arith, free, part_length, c.loop-used.invariant.2) in
+    let entry-is : read_next c.loop-used.next false rest ≡ entry e = sym (yes-5 c.loop-used.next false (length part) rest free) ∙ is in
+    let fine : Accepted rest e = accepted c.loop-used.next false rest e entry-is in
+    let left : c.loop-used.used + e.seconds ≤ length bits = omega (arith, fine.enough-left, length-drop c.loop-used.used bits, c.loop-used.invariant.0) in
+    let fewer : ℕ = length buffer / entry_size - (c.loop-used.count + 1) in
+    let one-slot : slots ≡ suc fewer = omega (arith, room, c.loop-used.invariant.2) in
+    let put_is : (ys : List ℕ) → ys ≡ (one_outcome part answer).buffer → ys ≡ entry_bytes e ++ drop entry_size part = (λ ys h. rw is at h) in (
+      rw went.bits left,
+      omega (arith, room, c.loop-used.invariant.2),
+      put-length c.loop-used.entries later from e room (put_is later later-is) ∙ c.loop-used.invariant.2,
+      turn fewer c.loop-used.count c.loop-used.used c.in-Advance.length c.loop-used.next state bits c.loop-used.entries later e (read_from first buffer bits)
+          went.bits went.next some entry-is room (put_is later later-is)
+          (ap (λ (s : ℕ). resume c.loop-used.count c.loop-used.used c.loop-used.entries (read_frames s c.loop-used.next rest)) (sym one-slot) ∙ c.loop-used.invariant.3),
+      turn-due fewer c.loop-used.used c.in-Advance.length c.loop-used.next state (due_from first buffer bits) bits e went.bits went.next
+          some entry-is (rw one-slot at c.loop-used.invariant.4),
+    )
 
 pub shape_of-entries : goal.shape_of-entries
 shape_of-entries c =
     c.loop-used.invariant.2
 
 pub returns : goal.returns
+unfolding stop
 returns c =
     let bits : List ℕ = c.args.bits.now in
     let buffer : List ℕ = c.args.entries.now in
     let first : Due = c.args.due in
     let rest : List ℕ = drop c.loop-used.used bits in
     let slots : ℕ = length buffer / entry_size - c.loop-used.count in
-    let stopped-at : (n : ℕ) (later : List ℕ) → later ≡ c.loop-used.entries → read_frames slots c.loop-used.next rest ≡ stop c.loop-used.next n → (◌≡◌ {A = Outcome} (record { count = c.loop-used.count; used = c.loop-used.used; refusal = n; buffer = later }) (read_from first buffer bits)) × (c.loop-used.next ≡ due_from first buffer bits) = unfold stop in (λ n later same e. (
+    let stopped-at : (n : ℕ) (later : List ℕ) → later ≡ c.loop-used.entries → read_frames slots c.loop-used.next rest ≡ stop c.loop-used.next n → (◌≡◌ {A = Outcome} (record { count = c.loop-used.count; used = c.loop-used.used; refusal = n; buffer = later }) (read_from first buffer bits)) × (c.loop-used.next ≡ due_from first buffer bits) = (λ n later same e. (
       rw same
           (sym (resume-stop c.loop-used.count c.loop-used.used c.loop-used.entries c.loop-used.next n)
           ∙ ap (resume c.loop-used.count c.loop-used.used c.loop-used.entries) (sym e)
           ∙ c.loop-used.invariant.3),
       rw e at c.loop-used.invariant.4,
     )) in
-    let later : List ℕ = c.read_entry-step.last.1.1.1.0 in
     let e : rest ≡ [] = drop_of_length-le bits {i = c.loop-used.used} c.loop-used-test.false in
     stopped-at 0 c.loop-used.entries refl (rw e (ended slots c.loop-used.next))

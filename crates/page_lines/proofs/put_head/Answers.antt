@@ -17,12 +17,12 @@ unfolding blanks
 returns c =
     let out₀ : List ℕ = c.args.out.now in
     let out₁ : List ℕ = c.copy.new.out in
-    let put₁ : Put (replicate 31 32) out₀ out₁ 31 = copied 31 refl (omega (arith, c.requires)) c.copy.ensures.1 in
+    let put₁ : Put (replicate 31 32) out₀ out₁ 31 = copied 31 refl (omega (arith, c.requires)) c.copy.ensures in
     let text₂ : List ℕ = replicate 31 32 ++ c.number_column-column.result in
     let out₂ : List ℕ = put_at 31 c.copy-2.new.out out₁ in
-    let put₂ : Put text₂ out₀ out₂ 42 = put-more put₁ (copied 11 (search rules) (omega (arith, rest-length put₁, c.requires)) c.copy-2.ensures.1) in
+    let put₂ : Put text₂ out₀ out₂ 42 = put-more put₁ (copied 11 (search rules) (omega (arith, rest-length put₁, c.requires)) c.copy-2.ensures) in
     let text-is =
     head-made c.args.number (replicate 31 32) _ _ (omega arith) refl c.number_column-column.ensures c.line_of-dashes.ensures in
     let size : length c.line_of-dashes.result ≡ 42 = search rules in
-    let p = put-more put₂ (copied 42 size (omega (arith, rest-length put₂, c.requires)) c.copy-3.ensures.1) in
+    let p = put-more put₂ (copied 42 size (omega (arith, rest-length put₂, c.requires)) c.copy-3.ensures) in
     p.is ∙ ap (λ (text : List ℕ). text ++ drop 84 out₀) text-is

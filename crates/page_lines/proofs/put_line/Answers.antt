@@ -34,15 +34,15 @@ copy-requires-4 c =
     let out₀ : List ℕ = c.args.out.now in
     let text₁ : List ℕ = c.minute_column-first.result in
     let out₁ : List ℕ = c.copy.new.out in
-    let put₁ : Put text₁ out₀ out₁ 9 = copied 9 (search rules) (omega (arith, c.requires.2)) c.copy.ensures.1 in
+    let put₁ : Put text₁ out₀ out₁ 9 = copied 9 (search rules) (omega (arith, c.requires.2)) c.copy.ensures in
     let text₂ : List ℕ = text₁ ++ c.moment_columns-moment.result in
     let out₂ : List ℕ = put_at 9 c.copy-2.new.out out₁ in
     let put₂ : Put text₂ out₀ out₂ 26 = put-more put₁ (copied 17 (search rules)
-    (omega (arith, rest-length put₁, c.requires.2)) c.copy-2.ensures.1) in
+    (omega (arith, rest-length put₁, c.requires.2)) c.copy-2.ensures) in
     let text₃ : List ℕ = text₂ ++ c.length_column-length.result in
     let out₃ : List ℕ = put_at 26 c.copy-3.new.out out₂ in
     let put₃ : Put text₃ out₀ out₃ 29 = put-more put₂ (copied 3 (search rules)
-    (omega (arith, rest-length put₂, c.requires.2)) c.copy-3.ensures.1) in
+    (omega (arith, rest-length put₂, c.requires.2)) c.copy-3.ensures) in
     let last-size : length c.last_columns-last.result ≡ 13 = search rules in
     let last-room : 13 ≤ length (take (length out₃ - 29) (drop 29 out₃)) = omega (arith, rest-length put₃, c.requires.2) in
     omega (arith, last-size, last-room)
@@ -61,16 +61,16 @@ returns c =
     let out₀ : List ℕ = c.args.out.now in
     let text₁ : List ℕ = c.minute_column-first.result in
     let out₁ : List ℕ = c.copy.new.out in
-    let put₁ : Put text₁ out₀ out₁ 9 = copied 9 (search rules) (omega (arith, c.requires.2)) c.copy.ensures.1 in
+    let put₁ : Put text₁ out₀ out₁ 9 = copied 9 (search rules) (omega (arith, c.requires.2)) c.copy.ensures in
     let text₂ : List ℕ = text₁ ++ c.moment_columns-moment.result in
     let out₂ : List ℕ = put_at 9 c.copy-2.new.out out₁ in
     let put₂ : Put text₂ out₀ out₂ 26 = put-more put₁ (copied 17 (search rules)
-    (omega (arith, rest-length put₁, c.requires.2)) c.copy-2.ensures.1) in
+    (omega (arith, rest-length put₁, c.requires.2)) c.copy-2.ensures) in
     let text₃ : List ℕ = text₂ ++ c.length_column-length.result in
     let out₃ : List ℕ = put_at 26 c.copy-3.new.out out₂ in
     let put₃ : Put text₃ out₀ out₃ 29 = put-more put₂ (copied 3 (search rules)
-    (omega (arith, rest-length put₂, c.requires.2)) c.copy-3.ensures.1) in
+    (omega (arith, rest-length put₂, c.requires.2)) c.copy-3.ensures) in
     let last-size : length c.last_columns-last.result ≡ 13 = search rules in
     let last-room : 13 ≤ length (take (length out₃ - 29) (drop 29 out₃)) = omega (arith, rest-length put₃, c.requires.2) in
-    let p = put-more put₃ (copied 13 last-size last-room c.copy-4.ensures.1) in
+    let p = put-more put₃ (copied 13 last-size last-room c.copy-4.ensures) in
     p.is ∙ ap (λ (text : List ℕ). text ++ drop 42 out₀) made
