@@ -32,7 +32,7 @@ unfolding reply_numbers
 returns-in-Written c =
     let schedule : ℤ → Schedule = λ z. schedule_of (plan_of c.args.kind c.args.spring c.args.autumn c.args.leap_month z c.args.notice) c.args.messages.now in
     let through : ℤ → ℤ = λ z. to_z w32 (of_z w32 z) in
-    let by-signs : {A : Type 0} {x y : A} (f : ℤ → ℤ → A) → x ≡ y → y ≡ f (through c.args.leap_sign) (through c.args.ut1_sign) → x ≡ f c.args.leap_sign c.args.ut1_sign = λ f d e. d ∙ e ∙ ap₂ f (to_z-of_z c.fits.leap-sign) (to_z-of_z c.fits.ut1-sign) in
+    let by-signs : {A : Type 0} {x y : A} (f : ℤ → ℤ → A) → x ≡ y → y ≡ f (through c.args.leap_sign) (through c.args.ut1_sign) → x ≡ f c.args.leap_sign c.args.ut1_sign = λ f d e. d ∙ e ∙ ap₂ f (to_z-of_z c.ranges.leap-sign) (to_z-of_z c.ranges.ut1-sign) in
     let numbers_by : ℤ → ℤ → Numbers = λ z y. write_amplitude (schedule z) c.args.minute y c.args.ut1_tenths (length c.args.out.now) in
     let buffer_by : ℤ → ℤ → List ℕ = λ z y. symbols_written (schedule z) c.args.minute y c.args.ut1_tenths c.args.out.now in
     let w = c.write_minute-answer in
@@ -42,7 +42,7 @@ pub returns-in-Refused : goal.returns-in-Refused
 returns-in-Refused c =
     let schedule : ℤ → Schedule = λ z. schedule_of (plan_of c.args.kind c.args.spring c.args.autumn c.args.leap_month z c.args.notice) c.args.messages.now in
     let through : ℤ → ℤ = λ z. to_z w32 (of_z w32 z) in
-    let by-signs : {A : Type 0} {x y : A} (f : ℤ → ℤ → A) → x ≡ y → y ≡ f (through c.args.leap_sign) (through c.args.ut1_sign) → x ≡ f c.args.leap_sign c.args.ut1_sign = λ f d e. d ∙ e ∙ ap₂ f (to_z-of_z c.fits.leap-sign) (to_z-of_z c.fits.ut1-sign) in
+    let by-signs : {A : Type 0} {x y : A} (f : ℤ → ℤ → A) → x ≡ y → y ≡ f (through c.args.leap_sign) (through c.args.ut1_sign) → x ≡ f c.args.leap_sign c.args.ut1_sign = λ f d e. d ∙ e ∙ ap₂ f (to_z-of_z c.ranges.leap-sign) (to_z-of_z c.ranges.ut1-sign) in
     let numbers_by : ℤ → ℤ → Numbers = λ z y. write_amplitude (schedule z) c.args.minute y c.args.ut1_tenths (length c.args.out.now) in
     let buffer_by : ℤ → ℤ → List ℕ = λ z y. symbols_written (schedule z) c.args.minute y c.args.ut1_tenths c.args.out.now in
     let w = c.write_minute-answer in (

@@ -31,7 +31,7 @@ pub returns-in-Written : goal.returns-in-Written
 unfolding reply_numbers
 returns-in-Written c =
     let schedule : ℤ → Schedule = λ z. schedule_of (plan_of c.args.kind c.args.spring c.args.autumn c.args.leap_month z c.args.notice) c.args.messages.now in
-    let by_sign : {A : Type 0} {x y : A} (f : ℤ → A) → x ≡ y → y ≡ f (to_z w32 (of_z w32 c.args.leap_sign)) → x ≡ f c.args.leap_sign = λ f d e. d ∙ e ∙ ap f (to_z-of_z c.fits.leap-sign) in
+    let by_sign : {A : Type 0} {x y : A} (f : ℤ → A) → x ≡ y → y ≡ f (to_z w32 (of_z w32 c.args.leap_sign)) → x ≡ f c.args.leap_sign = λ f d e. d ∙ e ∙ ap f (to_z-of_z c.ranges.leap-sign) in
     let numbers_by : ℤ → Numbers = λ z. write_irig (schedule z) c.args.minute c.args.second (length c.args.out.now) in
     let buffer_by : ℤ → List ℕ = λ z. elements_written (schedule z) c.args.minute c.args.second c.args.out.now in
     let w = c.write_second-answer in
@@ -40,7 +40,7 @@ returns-in-Written c =
 pub returns-in-Refused : goal.returns-in-Refused
 returns-in-Refused c =
     let schedule : ℤ → Schedule = λ z. schedule_of (plan_of c.args.kind c.args.spring c.args.autumn c.args.leap_month z c.args.notice) c.args.messages.now in
-    let by_sign : {A : Type 0} {x y : A} (f : ℤ → A) → x ≡ y → y ≡ f (to_z w32 (of_z w32 c.args.leap_sign)) → x ≡ f c.args.leap_sign = λ f d e. d ∙ e ∙ ap f (to_z-of_z c.fits.leap-sign) in
+    let by_sign : {A : Type 0} {x y : A} (f : ℤ → A) → x ≡ y → y ≡ f (to_z w32 (of_z w32 c.args.leap_sign)) → x ≡ f c.args.leap_sign = λ f d e. d ∙ e ∙ ap f (to_z-of_z c.ranges.leap-sign) in
     let numbers_by : ℤ → Numbers = λ z. write_irig (schedule z) c.args.minute c.args.second (length c.args.out.now) in
     let buffer_by : ℤ → List ℕ = λ z. elements_written (schedule z) c.args.minute c.args.second c.args.out.now in
     let w = c.write_second-answer in (
