@@ -14,23 +14,13 @@ use Rattle.page.proofs.put_pages.Goals as goal
 
 pub loop-used-init : goal.loop-used-init
 unfolding pages_from
-loop-used-init c =
-    let bits : List ℕ = c.args.bits.now in
-    let buffer : List ℕ = c.args.out.now in
-    let rest : List ℕ = drop c.loop-used.used bits in
-    let done : ℕ = c.loop-used.number - 1 in
-    let so_far : Printing done c.loop-used.due rest (entries_of bits) = c.loop-used.invariant.3 in
-    let put : Put (pages_from done 1 (map line (entries_of bits))) buffer c.loop-used.out c.loop-used.at = c.loop-used.invariant.4 in
-    let some : (left : c.loop-used.used < length bits) → 0 < length rest = λ left. omega (arith, length-drop c.loop-used.used bits) in
-    let next-within : (left : c.loop-used.used < length bits) → done + 1 ≤ page_count (length (entries_of bits)) = λ left. page-within done c.loop-used.due rest (entries_of bits) so_far some in
-    let room : (left : c.loop-used.used < length bits) → 2184 ≤ length (take (length c.loop-used.out - c.loop-used.at) (drop c.loop-used.at c.loop-used.out)) = λ left. next-room done c.loop-used.at bits buffer c.loop-used.out c.requires.1 next-within c.loop-used.invariant.2 put in
-    (
-      omega arith,
-      omega arith,
-      refl,
-      printing-none c.args.bits.now c.requires.0,
-      record { size = refl; room = omega arith; is = refl },
-    )
+loop-used-init c = (
+  omega arith,
+  omega arith,
+  refl,
+  printing-none c.args.bits.now c.requires.0,
+  record { size = refl; room = omega arith; is = refl },
+)
 
 pub slice_bounds-put_page-count-in-loop-used : goal.slice_bounds-put_page-count-in-loop-used
 slice_bounds-put_page-count-in-loop-used c =
@@ -59,8 +49,9 @@ put_page-rest-requires c =
     let so_far : Printing done c.loop-used.due rest (entries_of bits) = c.loop-used.invariant.3 in
     let put : Put (pages_from done 1 (map line (entries_of bits))) buffer c.loop-used.out c.loop-used.at = c.loop-used.invariant.4 in
     let some : (left : c.loop-used.used < length bits) → 0 < length rest = λ left. omega (arith, length-drop c.loop-used.used bits) in
-    let next-within : (left : c.loop-used.used < length bits) → done + 1 ≤ page_count (length (entries_of bits)) = λ left. page-within done c.loop-used.due rest (entries_of bits) so_far some in
-    let room : (left : c.loop-used.used < length bits) → 2184 ≤ length (take (length c.loop-used.out - c.loop-used.at) (drop c.loop-used.at c.loop-used.out)) = λ left. next-room done c.loop-used.at bits buffer c.loop-used.out c.requires.1 next-within c.loop-used.invariant.2 put in
+    let next-within : (left : c.loop-used.used < length bits) → done + 1 ≤ page_count (length (entries_of bits)) = λ left. page-within done c.loop-used.due rest (entries_of bits) so_far (some left) in
+    let room : (left : c.loop-used.used < length bits) → 2184 ≤ length (take (length c.loop-used.out - c.loop-used.at) (drop c.loop-used.at c.loop-used.out)) = λ left. next-room done c.loop-used.at bits buffer c.loop-used.out c.requires.1 (next-within left) c.loop-used.invariant.2 put in
+    let left : c.loop-used.used < length bits = omega arith in
     (ap (λ (f : List ℕ). (read_on c.loop-used.due f).refusal) (tail bits c.loop-used.used) ∙ so_far.going.accepted, room (omega arith))
 
 pub overflow_add-used : goal.overflow_add-used
@@ -84,8 +75,8 @@ overflow_add-at c =
     let done : ℕ = c.loop-used.number - 1 in
     let so_far : Printing done c.loop-used.due rest (entries_of bits) = c.loop-used.invariant.3 in
     let some : (left : c.loop-used.used < length bits) → 0 < length rest = λ left. omega (arith, length-drop c.loop-used.used bits) in
-    let next-within : (left : c.loop-used.used < length bits) → done + 1 ≤ page_count (length (entries_of bits)) = λ left. page-within done c.loop-used.due rest (entries_of bits) so_far some in
-    let small : (left : c.loop-used.used < length bits) → c.loop-used.number < 2 ^ 31 = λ left. omega (arith, number_small (done + 1) bits next-within, c.loop-used.invariant.1) in
+    let next-within : (left : c.loop-used.used < length bits) → done + 1 ≤ page_count (length (entries_of bits)) = λ left. page-within done c.loop-used.due rest (entries_of bits) so_far (some left) in
+    let small : (left : c.loop-used.used < length bits) → c.loop-used.number < 2 ^ 31 = λ left. omega (arith, number_small (done + 1) bits (next-within left), c.loop-used.invariant.1) in
     let left : c.loop-used.used < length bits = omega arith in
     omega (arith, small left, c.loop-used.invariant.2)
 
@@ -96,8 +87,8 @@ overflow_add-number c =
     let done : ℕ = c.loop-used.number - 1 in
     let so_far : Printing done c.loop-used.due rest (entries_of bits) = c.loop-used.invariant.3 in
     let some : (left : c.loop-used.used < length bits) → 0 < length rest = λ left. omega (arith, length-drop c.loop-used.used bits) in
-    let next-within : (left : c.loop-used.used < length bits) → done + 1 ≤ page_count (length (entries_of bits)) = λ left. page-within done c.loop-used.due rest (entries_of bits) so_far some in
-    let small : (left : c.loop-used.used < length bits) → c.loop-used.number < 2 ^ 31 = λ left. omega (arith, number_small (done + 1) bits next-within, c.loop-used.invariant.1) in
+    let next-within : (left : c.loop-used.used < length bits) → done + 1 ≤ page_count (length (entries_of bits)) = λ left. page-within done c.loop-used.due rest (entries_of bits) so_far (some left) in
+    let small : (left : c.loop-used.used < length bits) → c.loop-used.number < 2 ^ 31 = λ left. omega (arith, number_small (done + 1) bits (next-within left), c.loop-used.invariant.1) in
     let left : c.loop-used.used < length bits = omega arith in
     omega (arith, small left)
 
@@ -124,9 +115,9 @@ loop-used-preserved c =
     let so_far : Printing done c.loop-used.due rest (entries_of bits) = c.loop-used.invariant.3 in
     let put : Put (pages_from done 1 (map line (entries_of bits))) buffer c.loop-used.out c.loop-used.at = c.loop-used.invariant.4 in
     let some : (left : c.loop-used.used < length bits) → 0 < length rest = λ left. omega (arith, length-drop c.loop-used.used bits) in
-    let next-within : (left : c.loop-used.used < length bits) → done + 1 ≤ page_count (length (entries_of bits)) = λ left. page-within done c.loop-used.due rest (entries_of bits) so_far some in
-    let room : (left : c.loop-used.used < length bits) → 2184 ≤ length (take (length c.loop-used.out - c.loop-used.at) (drop c.loop-used.at c.loop-used.out)) = λ left. next-room done c.loop-used.at bits buffer c.loop-used.out c.requires.1 next-within c.loop-used.invariant.2 put in
-    let small : (left : c.loop-used.used < length bits) → c.loop-used.number < 2 ^ 31 = λ left. omega (arith, number_small (done + 1) bits next-within, c.loop-used.invariant.1) in
+    let next-within : (left : c.loop-used.used < length bits) → done + 1 ≤ page_count (length (entries_of bits)) = λ left. page-within done c.loop-used.due rest (entries_of bits) so_far (some left) in
+    let room : (left : c.loop-used.used < length bits) → 2184 ≤ length (take (length c.loop-used.out - c.loop-used.at) (drop c.loop-used.at c.loop-used.out)) = λ left. next-room done c.loop-used.at bits buffer c.loop-used.out c.requires.1 (next-within left) c.loop-used.invariant.2 put in
+    let small : (left : c.loop-used.used < length bits) → c.loop-used.number < 2 ^ 31 = λ left. omega (arith, number_small (done + 1) bits (next-within left), c.loop-used.invariant.1) in
     let left : c.loop-used.used < length bits = omega arith in
     let after : RestAfter 50 c.loop-used.due rest c.put_page-rest.result = subst (RestAfter 50 c.loop-used.due rest)
     (sym (c.put_page-rest.ensures.0 ∙ ap (rest_after c.loop-used.due) (tail bits c.loop-used.used)))
@@ -141,15 +132,14 @@ loop-used-preserved c =
     let page-put : Put (pages_from (done + 1) 1 (map line (entries_of bits))) buffer out-after (c.loop-used.at + 2184) = put-next-page done c.loop-used.due rest (entries_of bits) so_far (some left) c.loop-used.number c.loop-used.at buffer c.loop-used.out _
     (omega (arith, c.loop-used.invariant.1)) (omega (arith, small left)) put (room left) page-is in
     let printed : Printing (done + 1) c.put_page-rest.result.due (drop (c.loop-used.used + c.put_page-rest.result.used) bits) (entries_of bits) = printing-next done c.loop-used.due rest (entries_of bits) so_far (some left) c.put_page-rest.result _ after
-    (sym (drop-drop c.put_page-rest.result.used c.loop-used.used bits)) in
-    (
-  bits_left.0,
-  omega arith,
-  omega (arith, c.loop-used.invariant.2, c.loop-used.invariant.1),
-  subst (λ (k : ℕ). Printing k c.put_page-rest.result.due
-      (drop (c.loop-used.used + c.put_page-rest.result.used) bits) (entries_of bits)) next printed,
-  subst (λ (k : ℕ). Put (pages_from k 1 (map line (entries_of bits))) buffer out-after (c.loop-used.at + 2184)) next page-put,
-)
+    (sym (drop-drop c.put_page-rest.result.used c.loop-used.used bits)) in (
+      bits_left.0,
+      omega arith,
+      omega (arith, c.loop-used.invariant.2, c.loop-used.invariant.1),
+      subst (λ (k : ℕ). Printing k c.put_page-rest.result.due
+          (drop (c.loop-used.used + c.put_page-rest.result.used) bits) (entries_of bits)) next printed,
+      subst (λ (k : ℕ). Put (pages_from k 1 (map line (entries_of bits))) buffer out-after (c.loop-used.at + 2184)) next page-put,
+    )
 
 pub shape_of-out : goal.shape_of-out
 shape_of-out c =

@@ -22,12 +22,6 @@ use Rattle.page.proofs.put_parts.Goals as goal
 
 pub loop-i-init : goal.loop-i-init
 loop-i-init c =
-    let bits : List ℕ = c.args.bits.now in
-    let buffer : List ℕ = c.args.out.now in
-    let due : Due = c.args.due in
-    let es : List Entry = (read_on due bits).entries in
-    let put : Put (lines_text (c.loop-i.i * 10) (take (c.loop-i.i * 10) es)) buffer c.loop-i.out (c.loop-i.i * 420) = c.loop-i.invariant.3 in
-    let room : c.loop-i.i < 5 → 420 ≤ length (take (length c.loop-i.out - c.loop-i.i * 420) (drop (c.loop-i.i * 420) c.loop-i.out)) = λ h. omega (arith, rest-length put, c.requires.1) in
     let z = lines-zero (read_on c.args.due c.args.bits.now).entries in (
       omega arith,
       ap length c.part_space-space.ensures ∙ refl,
@@ -59,7 +53,7 @@ pub overflow_mul-end : goal.overflow_mul-end
 overflow_mul-end c =
     let bits : List ℕ = c.args.bits.now in
     let left : List ℕ = drop c.loop-i.used bits in
-    let later : List ℕ = c.read_from-part.last.1.0 in
+    let later : List ℕ = c.read_from-part.new.entries in
     let got : Part c.loop-i.next left c.loop-i.space later c.read_from-part.result = part-read c.loop-i.next left _ c.loop-i.space later c.read_from-part.result c.loop-i.invariant.1 (tail bits c.loop-i.used)
     c.read_from-part.ensures.0 c.read_from-part.ensures.1 in
     let front : List ℕ = take (c.read_from-part.result.entries * 18) later in
@@ -70,7 +64,7 @@ pub slice_bounds-space-end : goal.slice_bounds-space-end
 slice_bounds-space-end c =
     let bits : List ℕ = c.args.bits.now in
     let left : List ℕ = drop c.loop-i.used bits in
-    let later : List ℕ = c.read_from-part.last.1.0 in
+    let later : List ℕ = c.read_from-part.new.entries in
     let got : Part c.loop-i.next left c.loop-i.space later c.read_from-part.result = part-read c.loop-i.next left _ c.loop-i.space later c.read_from-part.result c.loop-i.invariant.1 (tail bits c.loop-i.used)
     c.read_from-part.ensures.0 c.read_from-part.ensures.1 in
     let same-space : length later ≡ 180 = space-kept c.loop-i.next left c.loop-i.space later c.read_from-part.result got c.loop-i.invariant.1 in
@@ -82,7 +76,7 @@ pub slice_bounds-put_part-end : goal.slice_bounds-put_part-end
 slice_bounds-put_part-end c =
     let bits : List ℕ = c.args.bits.now in
     let left : List ℕ = drop c.loop-i.used bits in
-    let later : List ℕ = c.read_from-part.last.1.0 in
+    let later : List ℕ = c.read_from-part.new.entries in
     let got : Part c.loop-i.next left c.loop-i.space later c.read_from-part.result = part-read c.loop-i.next left _ c.loop-i.space later c.read_from-part.result c.loop-i.invariant.1 (tail bits c.loop-i.used)
     c.read_from-part.ensures.0 c.read_from-part.ensures.1 in
     let same-space : length later ≡ 180 = space-kept c.loop-i.next left c.loop-i.space later c.read_from-part.result got c.loop-i.invariant.1 in
@@ -120,14 +114,13 @@ put_part-requires c =
     let es : List Entry = (read_on due bits).entries in
     let put : Put (lines_text (c.loop-i.i * 10) (take (c.loop-i.i * 10) es)) buffer c.loop-i.out (c.loop-i.i * 420) = c.loop-i.invariant.3 in
     let room : c.loop-i.i < 5 → 420 ≤ length (take (length c.loop-i.out - c.loop-i.i * 420) (drop (c.loop-i.i * 420) c.loop-i.out)) = λ h. omega (arith, rest-length put, c.requires.1) in
-    let later : List ℕ = c.read_from-part.last.1.0 in
+    let later : List ℕ = c.read_from-part.new.entries in
     let got : Part c.loop-i.next left c.loop-i.space later c.read_from-part.result = part-read c.loop-i.next left _ c.loop-i.space later c.read_from-part.result c.loop-i.invariant.1 (tail bits c.loop-i.used)
     c.read_from-part.ensures.0 c.read_from-part.ensures.1 in
     let same-space : length later ≡ 180 = space-kept c.loop-i.next left c.loop-i.space later c.read_from-part.result got c.loop-i.invariant.1 in
     let front : List ℕ = take (c.read_from-part.result.entries * 18) later in
     let front-is : (front ≡ bytes_of (part c.loop-i.next left).entries) × (c.read_from-part.result.entries * 18 ≤ 180) = prefix-bytes c.loop-i.next left c.loop-i.space later c.read_from-part.result got in
-    let front_length : length front ≡ c.read_from-part.result.entries * 18 = length-take-le (c.read_from-part.result.entries * 18) later (omega (arith, front-is.1, same-space)) in
-    (
+    let front_length : length front ≡ c.read_from-part.result.entries * 18 = length-take-le (c.read_from-part.result.entries * 18) later (omega (arith, front-is.1, same-space)) in (
       omega (arith, front_length),
       omega (arith, front_length, front-is.1),
       fits_in _ front front-is.0 (each_fits 10 c.loop-i.next left),
@@ -141,7 +134,7 @@ overflow_add-used c =
     let left : List ℕ = drop c.loop-i.used bits in
     let so_far : RestAfter (c.loop-i.i * 10) due bits (rest c.loop-i.used c.loop-i.next) = subst (RestAfter (c.loop-i.i * 10) due bits) (sym c.loop-i.invariant.2)
     (rest_from_lem (c.loop-i.i * 10) due bits c.requires.0) in
-    let later : List ℕ = c.read_from-part.last.1.0 in
+    let later : List ℕ = c.read_from-part.new.entries in
     let got : Part c.loop-i.next left c.loop-i.space later c.read_from-part.result = part-read c.loop-i.next left _ c.loop-i.space later c.read_from-part.result c.loop-i.invariant.1 (tail bits c.loop-i.used)
     c.read_from-part.ensures.0 c.read_from-part.ensures.1 in
     let bits_left : c.loop-i.used + c.read_from-part.result.used ≤ length bits = omega (arith, got.used, (sized 10 c.loop-i.next left).within, length-drop c.loop-i.used bits, so_far.within) in
@@ -158,7 +151,7 @@ loop-i-preserved c =
     (rest_from_lem (c.loop-i.i * 10) due bits c.requires.0) in
     let put : Put (lines_text (c.loop-i.i * 10) (take (c.loop-i.i * 10) es)) buffer c.loop-i.out (c.loop-i.i * 420) = c.loop-i.invariant.3 in
     let room : c.loop-i.i < 5 → 420 ≤ length (take (length c.loop-i.out - c.loop-i.i * 420) (drop (c.loop-i.i * 420) c.loop-i.out)) = λ h. omega (arith, rest-length put, c.requires.1) in
-    let later : List ℕ = c.read_from-part.last.1.0 in
+    let later : List ℕ = c.read_from-part.new.entries in
     let got : Part c.loop-i.next left c.loop-i.space later c.read_from-part.result = part-read c.loop-i.next left _ c.loop-i.space later c.read_from-part.result c.loop-i.invariant.1 (tail bits c.loop-i.used)
     c.read_from-part.ensures.0 c.read_from-part.ensures.1 in
     let same-space : length later ≡ 180 = space-kept c.loop-i.next left c.loop-i.space later c.read_from-part.result got c.loop-i.invariant.1 in
