@@ -1,7 +1,6 @@
 -- `amplitude_reader::fields_from` meets its contract.
 -- Assumes nothing.
 use Rattle.amplitude_rules.specs.Reading.{fields_from}
-use borrow.Author.Rules.{rules}
 use Rattle.amplitude_reader.proofs.fields_from.Goals as goal
 
 pub returns : goal.returns

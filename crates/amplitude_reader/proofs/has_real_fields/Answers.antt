@@ -3,12 +3,11 @@
 use Prim.Native.Nat.{◌+◌}
 use mathlib.Core.Path.{sym, ◌∙◌}
 use native.Mathlib.Omega.{arith}
-use borrow.Author.Tests.{lt-ltb, le-ltb, le-leb, lt-leb, not-true, not-false}
+use borrow.Author.Tests.{lt-ltb, le-ltb, le-leb, lt-leb}
 use Rattle.gregorian.specs.Gregorian.{first_year, year_length}
 use Rattle.amplitude_rules.specs.Reading.{real_fields}
 use Rattle.amplitude_rules.proofs.Facts.{mark-small}
 use Rattle.amplitude_reader.proofs.Reading.{year-length}
-use borrow.Author.Rules.{rules}
 use Rattle.amplitude_reader.proofs.has_real_fields.Goals as goal
 
 pub returns-then-not-is_sign : goal.returns-then-not-is_sign

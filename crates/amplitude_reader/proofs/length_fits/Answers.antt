@@ -2,9 +2,8 @@
 -- Assumes nothing.
 use mathlib.Core.Path.{sym, ◌∙◌}
 use mathlib.Core.Bool.{and-false}
-use borrow.Author.Tests.{eq-eqb, ne_eqb, not-true, not-false}
+use borrow.Author.Tests.{eq-eqb, ne_eqb}
 use Rattle.amplitude_rules.specs.Amplitude.{length_fits}
-use borrow.Author.Rules.{rules}
 use Rattle.amplitude_reader.proofs.length_fits.Goals as goal
 
 pub returns-then-warning-ne1 : goal.returns-then-warning-ne1

@@ -3,7 +3,6 @@
 use mathlib.Core.Path.{◌∙◌}
 use native.Mathlib.Omega.{arith}
 use Rattle.amplitude_reader.proofs.Reading.{no-layout, short-enough, by-numbers}
-use borrow.Author.Rules.{rules}
 use Rattle.amplitude_reader.proofs.read_minute.Goals as goal
 
 pub overflow_cast-symbols : goal.overflow_cast-symbols

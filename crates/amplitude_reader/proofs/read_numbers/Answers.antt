@@ -1,11 +1,9 @@
 -- `amplitude_reader::read_numbers` meets its contract.
 -- Assumes nothing.
 use mathlib.Core.Path.{sym, ◌∙◌}
-use borrow.Author.Tests.{not-true, not-false}
 use Rattle.amplitude_row.specs.Row.{row_numbers}
 use Rattle.amplitude_rules.proofs.Facts.{year-small}
 use Rattle.amplitude_reader.proofs.Reading.{not-decimal, no_fields, no_length, all_fit}
-use borrow.Author.Rules.{rules}
 use Rattle.amplitude_reader.proofs.read_numbers.Goals as goal
 
 pub returns-then-not-has_decimal_digits : goal.returns-then-not-has_decimal_digits

@@ -3,7 +3,6 @@
 use native.Mathlib.Omega.{arith}
 use Rattle.amplitude_rules.specs.Reading.{values_of}
 use Rattle.amplitude_reader.proofs.Reading.{sign-through, bounds}
-use borrow.Author.Rules.{rules}
 use Rattle.amplitude_reader.proofs.values_of.Goals as goal
 
 pub overflow_sub-day : goal.overflow_sub-day

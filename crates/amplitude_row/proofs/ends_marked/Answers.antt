@@ -5,7 +5,6 @@ use native.Mathlib.Omega.{arith}
 use borrow.Author.Tests.{eq-eqb, ne_eqb}
 use Rattle.amplitude_row.proofs.Ends.{none_after, one-after, two-after, no_second}
 use lib.ListN.{get_or}
-use borrow.Author.Rules.{rules}
 use Rattle.amplitude_row.proofs.ends_marked.Goals as goal
 
 pub returns-then-s-le-ROW : goal.returns-then-s-le-ROW

@@ -2,7 +2,6 @@
 -- Assumes nothing.
 use mathlib.Core.Path.{sym, ◌∙◌}
 use Rattle.amplitude_rules.specs.Amplitude.{leap_mark}
-use borrow.Author.Rules.{rules}
 use Rattle.amplitude_row.proofs.leap_mark.Goals as goal
 
 pub returns-then-is_leap : goal.returns-then-is_leap

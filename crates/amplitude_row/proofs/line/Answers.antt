@@ -3,7 +3,6 @@
 use mathlib.Core.Path.{sym, ◌∙◌}
 use borrow.Author.Tests.{eq-eqb, ne_eqb}
 use Rattle.amplitude_row.proofs.ByLine.{no-mark, mark-and-bits, no_bits}
-use borrow.Author.Rules.{rules}
 use Rattle.amplitude_row.proofs.line.Goals as goal
 
 pub returns-then-s-from-ne-MARKER : goal.returns-then-s-from-ne-MARKER

@@ -1,7 +1,6 @@
 -- `amplitude_row::lines_in` meets its contract.
 -- Assumes nothing.
 use Rattle.amplitude_row.specs.Row.{lines_in}
-use borrow.Author.Rules.{rules}
 use Rattle.amplitude_row.proofs.lines_in.Goals as goal
 
 pub returns : goal.returns

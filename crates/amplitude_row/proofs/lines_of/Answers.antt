@@ -3,7 +3,6 @@
 use Rattle.amplitude_rules.specs.Amplitude.{digits}
 use Rattle.amplitude_row.specs.Row.{lines_of}
 use Rattle.amplitude_row.proofs.ByLine.{flags-small}
-use borrow.Author.Rules.{rules}
 use Rattle.amplitude_row.proofs.lines_of.Goals as goal
 
 pub flags_of-requires : goal.flags_of-requires

@@ -1,7 +1,6 @@
 -- `amplitude_row::put_line` meets its contract.
 -- Assumes nothing.
 use Rattle.amplitude_row.proofs.Putting.{line-put, line-length}
-use borrow.Author.Rules.{rules}
 use Rattle.amplitude_row.proofs.put_line.Goals as goal
 
 pub shape_of-out : goal.shape_of-out

@@ -1,7 +1,6 @@
 -- `amplitude_row::put_lines` meets its contract.
 -- Assumes nothing.
 use Rattle.amplitude_row.proofs.Putting.{lines-put}
-use borrow.Author.Rules.{rules}
 use Rattle.amplitude_row.proofs.put_lines.Goals as goal
 
 pub returns : goal.returns

@@ -6,7 +6,6 @@ use Prim.Native.Nat.{ℕ}
 use lib.ListN.{drop}
 use Rattle.amplitude_row.specs.Row.{line_symbols}
 use Rattle.amplitude_row.proofs.ByLine.{lines-fill}
-use borrow.Author.Rules.{rules}
 use Rattle.amplitude_row.proofs.put_row.Goals as goal
 
 pub returns : goal.returns

@@ -1,10 +1,8 @@
 -- `amplitude_row::read_layout` meets its contract.
 -- Assumes nothing.
 use mathlib.Core.Path.{sym, ◌∙◌}
-use borrow.Author.Tests.{not-true, not-false}
 use Rattle.amplitude_row.proofs.Layouts.{too_short, too_long, not-marked, no_row, has-layout}
 use Rattle.amplitude_row.proofs.ByLine.{row_fits_lem, row-numbers}
-use borrow.Author.Rules.{rules}
 use Rattle.amplitude_row.proofs.read_layout.Goals as goal
 
 pub returns-then-s-lt-ROW : goal.returns-then-s-lt-ROW

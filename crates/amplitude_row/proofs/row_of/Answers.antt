@@ -1,6 +1,5 @@
 -- `amplitude_row::row_of` meets its contract.
 -- Assumes nothing.
-use borrow.Author.Rules.{rules}
 use Rattle.amplitude_row.proofs.row_of.Goals as goal
 
 pub returns : goal.returns

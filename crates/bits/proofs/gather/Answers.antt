@@ -1,7 +1,6 @@
 -- `bits::gather` meets its contract.
 -- Assumes nothing.
 use mathlib.Core.Path.{sym, ◌∙◌}
-use borrow.Author.Rules.{rules}
 use Rattle.bits.specs.Gathered.{gathered}
 use Rattle.bits.proofs.gather.Goals as goal
 

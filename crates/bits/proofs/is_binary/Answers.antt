@@ -1,12 +1,11 @@
-use Prim.Native.Nat.{◌-◌, ◌≤◌}
 use mathlib.Core.Bool.{and-true}
-use mathlib.Core.Path.{◌≡◌, refl, sym, ◌∙◌}
+use mathlib.Core.Path.{◌≡◌, sym, ◌∙◌}
 use native.Mathlib.Omega.{arith}
 use lib.Dec.{leb}
 use lib.ListN.{length}
 use lib.Seq.{drop-length}
 use Rattle.bits.specs.Bits.{all}
-use Rattle.bits.proofs.Slices.{Seen, seen_next}
+use Rattle.bits.proofs.Slices.{seen_next}
 use Rattle.bits.proofs.is_binary.Goals as goal
 
 pub loop-i-preserved : goal.loop-i-preserved

@@ -1,14 +1,8 @@
 -- `bits::is_binary` meets its contract: the bits of all bytes together are a bit exactly when each byte is.
 -- Assumes nothing.
 use Prim.Native.Nat.{◌-◌, ◌≤◌}
-use mathlib.Core.Bool.{and-true}
-use mathlib.Core.Path.{◌≡◌, refl, sym, ◌∙◌}
-use native.Mathlib.Omega.{arith}
-use lib.Dec.{leb}
 use lib.ListN.{length}
-use lib.Seq.{drop-length}
-use Rattle.bits.specs.Bits.{all}
-use Rattle.bits.proofs.Slices.{Seen, seen_next}
+use Rattle.bits.proofs.Slices.{Seen}
 use Rattle.bits.proofs.is_binary.Given as goal
 
 abbrev pub invariant-loop-i : goal.invariant-loop-i

@@ -1,11 +1,9 @@
-use Prim.Native.Nat.{◌+◌, ◌-◌, ◌*◌, ◌^◌, ◌≤◌, ◌<◌}
-use mathlib.Core.Bool.{true}
-use mathlib.Core.Path.{◌≡◌}
+use Prim.Native.Nat.{◌+◌, ◌*◌, ◌^◌, ◌≤◌, ◌<◌}
 use native.Mathlib.Omega.{arith}
-use lib.ListN.{length, take, drop}
+use lib.ListN.{take, drop}
 use lib.Pow.{pow_mono}
-use Rattle.bits.specs.Bits.{number, is_bit, all}
-use Rattle.bits.proofs.Slices.{Sofar, gather-part, part-lt}
+use Rattle.bits.specs.Bits.{number}
+use Rattle.bits.proofs.Slices.{gather-part, part-lt}
 use Rattle.bits.proofs.number_of.Goals as goal
 use Rattle.bits.proofs.number_of.Goals.{In-loop-i}
 

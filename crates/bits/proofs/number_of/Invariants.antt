@@ -1,13 +1,11 @@
 -- `bits::number_of` meets its contract.
 -- Assumes nothing.
-use Prim.Native.Nat.{◌+◌, ◌-◌, ◌*◌, ◌^◌, ◌≤◌, ◌<◌}
+use Prim.Native.Nat.{◌-◌, ◌^◌, ◌≤◌, ◌<◌}
 use mathlib.Core.Bool.{true}
 use mathlib.Core.Path.{◌≡◌}
-use native.Mathlib.Omega.{arith}
-use lib.ListN.{length, take, drop}
-use lib.Pow.{pow_mono}
-use Rattle.bits.specs.Bits.{number, is_bit, all}
-use Rattle.bits.proofs.Slices.{Sofar, gather-part, part-lt}
+use lib.ListN.{length}
+use Rattle.bits.specs.Bits.{is_bit, all}
+use Rattle.bits.proofs.Slices.{Sofar}
 use Rattle.bits.proofs.number_of.Given as goal
 
 abbrev pub invariant-loop-i : goal.invariant-loop-i

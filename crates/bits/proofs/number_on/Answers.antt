@@ -1,13 +1,12 @@
-use Prim.Native.Nat.{◌+◌, ◌-◌, ◌*◌, ◌^◌, ◌≤◌, ◌<◌}
-use mathlib.Core.Bool.{true}
+use Prim.Native.Nat.{◌+◌, ◌*◌, ◌^◌, ◌≤◌, ◌<◌}
 use mathlib.Core.Path.{◌≡◌}
 use native.Mathlib.Nat.{sub_self}
 use native.Mathlib.Omega.{arith}
 use lib.ListN.{length, get_or}
 use lib.Pow.{pow_mono}
 use lib.Seq.{drop-length}
-use Rattle.bits.specs.Bits.{number, is_bit, all}
-use Rattle.bits.proofs.Slices.{Sofar, gather-next, next-lt}
+use Rattle.bits.specs.Bits.{number}
+use Rattle.bits.proofs.Slices.{gather-next, next-lt}
 use Rattle.bits.proofs.number_on.Goals as goal
 use Rattle.bits.proofs.number_on.Goals.{In-loop-i}
 

@@ -1,15 +1,11 @@
 -- `bits::number_on` meets its contract.
 -- Assumes nothing.
-use Prim.Native.Nat.{◌+◌, ◌-◌, ◌*◌, ◌^◌, ◌≤◌, ◌<◌}
+use Prim.Native.Nat.{◌-◌, ◌^◌, ◌≤◌, ◌<◌}
 use mathlib.Core.Bool.{true}
 use mathlib.Core.Path.{◌≡◌}
-use native.Mathlib.Nat.{sub_self}
-use native.Mathlib.Omega.{arith}
-use lib.ListN.{length, get_or}
-use lib.Pow.{pow_mono}
-use lib.Seq.{drop-length}
-use Rattle.bits.specs.Bits.{number, is_bit, all}
-use Rattle.bits.proofs.Slices.{Sofar, gather-next, next-lt}
+use lib.ListN.{length}
+use Rattle.bits.specs.Bits.{is_bit, all}
+use Rattle.bits.proofs.Slices.{Sofar}
 use Rattle.bits.proofs.number_on.Given as goal
 
 abbrev pub invariant-loop-i : goal.invariant-loop-i

@@ -1,9 +1,8 @@
-use Prim.Native.Nat.{suc, ◌-◌, ◌/◌, ◌%◌, ◌^◌, ◌≤◌}
-use mathlib.Core.List.{◌++◌}
+use Prim.Native.Nat.{suc, ◌-◌, ◌%◌}
 use mathlib.Core.Path.{◌≡◌, refl, sym, ◌∙◌}
 use native.Mathlib.Nat.{div-one, sub_self, sub-zero}
 use native.Mathlib.Omega.{arith}
-use lib.ListN.{length, drop, length-set}
+use lib.ListN.{length-set}
 use Rattle.bits.specs.Bits.{bit, bits}
 use Rattle.bits.proofs.Slices.{drop-set}
 use Rattle.bits.proofs.Bits.{half-shr}

@@ -1,14 +1,10 @@
 -- `bits::spread_rest` meets its contract. The loop's invariant: from place i on stand the low bits of the word and the rest of the slice, and rest is what is above them.
 -- Assumes nothing.
-use Prim.Native.Nat.{suc, ◌-◌, ◌/◌, ◌%◌, ◌^◌, ◌≤◌}
+use Prim.Native.Nat.{◌-◌, ◌/◌, ◌^◌, ◌≤◌}
 use mathlib.Core.List.{◌++◌}
-use mathlib.Core.Path.{◌≡◌, refl, sym, ◌∙◌}
-use native.Mathlib.Nat.{div-one, sub_self, sub-zero}
-use native.Mathlib.Omega.{arith}
-use lib.ListN.{length, drop, length-set}
-use Rattle.bits.specs.Bits.{bit, bits}
-use Rattle.bits.proofs.Slices.{drop-set}
-use Rattle.bits.proofs.Bits.{half-shr}
+use mathlib.Core.Path.{◌≡◌}
+use lib.ListN.{length, drop}
+use Rattle.bits.specs.Bits.{bits}
 use Rattle.bits.proofs.spread_rest.Given as goal
 
 abbrev pub invariant-loop-i : goal.invariant-loop-i

@@ -5,7 +5,6 @@ use mathlib.Core.Path.{◌≡◌}
 use native.Mathlib.Nat.{add-zero}
 use native.Mathlib.Omega.{arith}
 use Rattle.bits.proofs.Products.{packed-at}
-use borrow.Author.Rules.{rules}
 use Rattle.bits.proofs.eight.gather.Goals as goal
 
 pub returns : goal.returns

@@ -1,13 +1,10 @@
 -- `bits::eight::put_bytes` meets its contract. The loop's invariant: the first j bytes stand from place i on, and rest has the others.
 -- Assumes nothing.
-use Prim.Native.Nat.{◌+◌, ◌-◌, ◌/◌, ◌%◌, ◌^◌, ◌≤◌}
-use mathlib.Core.Path.{◌≡◌, refl, sym, ◌∙◌}
-use native.Mathlib.Nat.{div-one}
-use native.Mathlib.Omega.{arith}
-use lib.ListN.{length, length-set}
-use lib.Seq.{paste, paste-zero}
+use Prim.Native.Nat.{◌-◌, ◌/◌, ◌^◌, ◌≤◌}
+use mathlib.Core.Path.{◌≡◌}
+use lib.ListN.{length}
+use lib.Seq.{paste}
 use Rattle.bits.specs.Gathered.{low_bytes}
-use Rattle.bits.proofs.Slices.{byte_left, byte-done}
 use Rattle.bits.proofs.eight.put_bytes.Given as goal
 
 abbrev pub invariant-loop-j : goal.invariant-loop-j
