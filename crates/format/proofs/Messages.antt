@@ -1,6 +1,6 @@
 -- The answers to a message's questions, one by one, and its fields from the first 59 bits as a number.
 -- Assumes nothing.
-use Prim.Native.Nat.{ℕ, ◌-◌, ◌/◌, ◌%◌, ◌^◌, ◌≤◌, ◌<◌}
+use Prim.Native.Nat.{ℕ, ◌/◌, ◌%◌, ◌^◌, ◌≤◌, ◌<◌}
 use mathlib.Core.Bool.{Bool, true, false}
 use mathlib.Core.List.{List}
 use mathlib.Core.Path.{◌≡◌, refl, sym, ap, ◌∙◌}
@@ -17,7 +17,6 @@ use Rattle.format.specs.Entry.{Entry}
 use Rattle.format.specs.Message.{message_sync_word, is_message, data_in}
 use Rattle.format.specs.Questions.{question13, question20, message_questions}
 use Rattle.format.specs.Next.{refused, entry}
-use Rattle.format.specs.declared.Due.{Due}
 use Rattle.format.specs.declared.Due.TheVariants.{Any, Minute}
 use Rattle.format.proofs.Words.{notice-bit}
 use Rattle.format.proofs.Questions.{message_answer}

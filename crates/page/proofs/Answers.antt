@@ -3,16 +3,15 @@
 use Prim.Native.Nat.{ℕ, ◌+◌, ◌*◌, ◌/◌, ◌≤◌, ◌<◌}
 use mathlib.Core.Bool.{Bool, true, false}
 use mathlib.Core.List.{List, [], ◌∷◌, ◌++◌}
-use mathlib.Core.Path.{◌≡◌, refl, sym, ap, ◌∙◌}
+use mathlib.Core.Path.{◌≡◌, refl, sym, ap}
 use native.Mathlib.Omega.{arith}
-use lib.Dec.{leb, eqb}
+use lib.Dec.{eqb}
 use lib.ListN.{length, get_or, drop}
 use borrow.Author.Tests.{eqb-true, eqb-false, le-leb, lt-leb, ne_eqb}
 use Rattle.questions.specs.Questions.{asked}
 use Rattle.bits.specs.Bits.{pick}
 use Rattle.bits.specs.Numbers.{Numbers, found, refused}
 use Rattle.sequence.specs.Reading.{Found}
-use Rattle.page_rules.specs.Page.{page_count}
 use Rattle.page_rules.specs.Printing.{read_all, entries_of, pages_of, Printed, unprinted, print_text, print_found, print_pages}
 use Rattle.page_rules.proofs.Entries.{entries_fit}
 use Rattle.page_rules.proofs.Pages.{pages-length}

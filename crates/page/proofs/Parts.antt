@@ -1,13 +1,11 @@
 -- The entries of a part read into their space: what the call of the reader comes to, by the definitions.
 -- Assumes nothing.
 use Prim.Native.Nat.{ℕ, ◌+◌, ◌/◌, ◌≤◌, ◌<◌}
-use mathlib.Core.Bool.{true, false}
 use mathlib.Core.List.{List, [], ◌∷◌, ◌++◌}
 use mathlib.Core.Logic.{◌⊎◌, inl, inr}
 use mathlib.Core.Path.{◌≡◌, refl, sym, ap, ◌∙◌}
 use native.Mathlib.Nat.{zero-add}
 use native.Mathlib.Omega.{arith}
-use lib.Dec.{eqb}
 use lib.ListN.{length, drop, length-append, length-drop}
 use borrow.Author.Tests.{ne_eqb}
 use Rattle.bits.specs.Numbers.{found, refused}
@@ -20,11 +18,10 @@ use Rattle.frame.specs.declared.Refusal.TheVariants.{EntrySpace, Short, NotBits,
 use Rattle.sequence.specs.Reading.{Found, stop, read_frames, bytes_of, Outcome, outcome, read_from, due_from}
 use Rattle.sequence.proofs.Resume.{length-bytes}
 use Rattle.entries.specs.Answer.{end_number, summary_outcome}
-use Rattle.entries.specs.declared.End.{End}
 use Rattle.entries.specs.declared.End.TheVariants.{Complete, Refused}
 use Rattle.entries.specs.declared.Summary.{Summary}
 use Rattle.page_rules.specs.Printing.{read_on, read_all}
-use Rattle.page_rules.proofs.Reading.{Sized, sized, read-on-same, read-parts, before, on-end}
+use Rattle.page_rules.proofs.Reading.{sized, read-on-same, read-parts, before, on-end}
 use Rattle.page.specs.Answer.{counted}
 
 -- what reading ten entries from a state on finds

@@ -3,9 +3,7 @@
 use Prim.Native.Nat.{ℕ, ◌-◌, ◌≤◌}
 use mathlib.Core.List.{List, ◌++◌}
 use mathlib.Core.Path.{◌≡◌}
-use native.Mathlib.Omega.{arith}
 use lib.ListN.{length, take, drop}
-use lib.Seq.{take_all}
 use Rattle.sequence.proofs.Putting.{Put}
 
 -- a list with another at a place, as it comes back from a call that was lent the rest

@@ -1,30 +1,30 @@
 -- The entries of a recording: their numbers fit the columns of a line, and there are at most as many as minutes in the range.
 -- Assumes nothing.
-use Prim.Native.Nat.{ℕ, zero, suc, ◌+◌, ◌-◌, ◌%◌, ◌≤◌, ◌<◌}
+use Prim.Native.Nat.{ℕ, zero, suc, ◌-◌, ◌%◌, ◌≤◌, ◌<◌}
 use mathlib.Core.Bool.{Bool, true, false}
-use mathlib.Core.List.{List, [], ◌∷◌}
-use mathlib.Core.Path.{◌≡◌, refl, sym, ap, subst, ◌∙◌}
+use mathlib.Core.List.{List}
+use mathlib.Core.Path.{◌≡◌, sym, ap, subst, ◌∙◌}
 use native.Mathlib.Omega.{arith}
 use lib.Dec.{eqb}
-use lib.ListN.{length, get_or, drop}
+use lib.ListN.{length, get_or}
 use borrow.Author.Tests.{ltb-true}
 use Rattle.questions.specs.Questions.{AllYes}
 use Rattle.bits.specs.Bits.{pick, number}
 use Rattle.bits.proofs.Tests.{first-le}
-use Rattle.calendar.specs.Calendar.{minute_count, last_of_month}
+use Rattle.calendar.specs.Calendar.{minute_count}
 use Rattle.timeword.specs.TimeWord.{error_place, reading, is_code_word, invert}
 use Rattle.codewords.specs.CodeWords.{state_of, illegal, unassigned}
-use Rattle.format.specs.Frame.{min_frame, word_in, state_in}
+use Rattle.format.specs.Frame.{word_in, state_in}
 use Rattle.format.specs.Entry.{Entry}
 use Rattle.format.specs.Message.{is_message, message_entry}
 use Rattle.format.specs.Reading.{seconds_for, entry_of}
 use Rattle.format.specs.Questions.{after, message_in, entry_next, time_questions, message_questions, next_questions}
-use Rattle.format.specs.Next.{refused, entry, read_next}
+use Rattle.format.specs.Next.{entry, read_next}
 use Rattle.format.specs.declared.Due.{Due}
 use Rattle.format.specs.declared.Due.TheVariants.{Any, Minute}
 use Rattle.format.proofs.Accepted.{entry-only, by-answers, next-counted}
 use Rattle.format.proofs.Refusals.{frame-accepted}
-use Rattle.sequence.specs.Reading.{Found, stop, add, read_frames}
+use Rattle.sequence.specs.Reading.{stop, add, read_frames}
 use Rattle.page_rules.specs.Printing.{read_on, read_all}
 use Rattle.page_rules.specs.Theorems.{Each, Fits, EntriesFit}
 use Rattle.page_rules.proofs.Reading.{by_frames}

@@ -1,11 +1,11 @@
 -- Reading a whole recording, whatever the entry space: what its entries are, and that it can be read in parts.
 -- Assumes nothing.
-use Prim.Native.Nat.{ℕ, zero, suc, ◌+◌, ◌-◌, ◌*◌, ◌/◌, ◌≤◌, ◌<◌}
+use Prim.Native.Nat.{ℕ, zero, suc, ◌+◌, ◌*◌, ◌/◌, ◌≤◌, ◌<◌}
 use mathlib.Core.Bool.{Bool, true, false}
 use mathlib.Core.List.{List, [], ◌∷◌, ◌++◌, append-nil}
 use mathlib.Core.Logic.{◌⊎◌, inl, inr, ◌≢◌}
 use mathlib.Core.Path.{◌≡◌, refl, sym, ap, subst, ◌∙◌}
-use native.Mathlib.Nat.{add-zero, zero-add}
+use native.Mathlib.Nat.{zero-add}
 use native.Mathlib.Decide.{dec_le}
 use native.Mathlib.Omega.{arith}
 use lib.Dec.{eqb}
@@ -13,17 +13,15 @@ use lib.ListN.{length, drop, length-drop, drop_of_length-le}
 use lib.Seq.{drop-drop}
 use borrow.Author.Tests.{eqb-true, eqb-false}
 use Rattle.questions.specs.Questions.{one_of}
-use Rattle.bits.specs.Bits.{pick, all}
-use Rattle.calendar.specs.Calendar.{minute_count}
+use Rattle.bits.specs.Bits.{all}
 use Rattle.format.specs.Entry.{Entry, entry_size}
 use Rattle.format.specs.Message.{is_message}
 use Rattle.format.specs.Questions.{start, after, entry_next}
 use Rattle.format.specs.Next.{Answer, refused, entry, read_next}
 use Rattle.format.specs.Refusals.{next_numbers}
 use Rattle.format.specs.declared.Due.{Due}
-use Rattle.format.specs.declared.Due.TheVariants.{Any, Minute}
-use Rattle.format.proofs.Accepted.{entry-only, accepted, next-counted}
-use Rattle.format.proofs.Refusals.{not-refused, frame-accepted, frame-answers, refused-injective}
+use Rattle.format.proofs.Accepted.{accepted}
+use Rattle.format.proofs.Refusals.{not-refused, frame-answers, refused-injective}
 use Rattle.sequence.specs.Reading.{Found, stop, add, read_frames, read_recording}
 use Rattle.sequence.proofs.ReadRefusals.{among}
 use Rattle.sequence.proofs.Steps.{ended, no-space, frame_refused, frame-read}

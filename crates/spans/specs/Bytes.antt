@@ -1,6 +1,6 @@
 -- The place of a byte in a list, and a part of a list. No section of the papers: general words.
 -- Assumes nothing.
-use Rattle.std.specs.Prelude.{ℕ, zero, suc, Bool, true, false, List, [], ◌∷◌, eqb, take, drop}
+use Rattle.std.specs.Prelude.{ℕ, suc, Bool, true, false, List, [], ◌∷◌, eqb, take, drop}
 
 -- one more, unless the place is found
 unfoldable pub index_after : Bool → ℕ → ℕ

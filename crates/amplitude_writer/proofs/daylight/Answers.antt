@@ -1,7 +1,6 @@
 -- `amplitude_writer::daylight` meets its contract.
 -- Assumes nothing.
 use mathlib.Core.Path.{◌∙◌}
-use borrow.Author.Rules.{rules}
 use Rattle.amplitude_writer.proofs.daylight.Goals as goal
 
 pub returns : goal.returns

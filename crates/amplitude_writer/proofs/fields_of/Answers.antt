@@ -5,7 +5,6 @@ use native.Mathlib.Omega.{arith}
 use Rattle.gregorian.proofs.Months.{placed, year-low, year-rest-is, year-index}
 use Rattle.amplitude_rules.proofs.Facts.{legal, legal-through}
 use Rattle.amplitude_rules.specs.Amplitude.{fields_of}
-use borrow.Author.Rules.{rules}
 use Rattle.amplitude_writer.proofs.fields_of.Goals as goal
 
 pub year_index-years-requires : goal.year_index-years-requires

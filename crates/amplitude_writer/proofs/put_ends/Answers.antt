@@ -3,7 +3,6 @@
 use native.Mathlib.Omega.{arith}
 use lib.Seq.{lt-length-set}
 use Rattle.amplitude_writer.proofs.Written.{no-marker, one-marker, two-markers}
-use borrow.Author.Rules.{rules}
 use Rattle.amplitude_writer.proofs.put_ends.Goals as goal
 
 pub returns-then-seconds-le-ROW : goal.returns-then-seconds-le-ROW

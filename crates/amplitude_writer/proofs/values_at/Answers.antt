@@ -2,7 +2,6 @@
 -- Assumes nothing.
 use mir.Facts.{to_z-of_z}
 use Rattle.amplitude_rules.specs.Writing.{values_at}
-use borrow.Author.Rules.{rules}
 use Rattle.amplitude_writer.proofs.values_at.Goals as goal
 
 pub returns : goal.returns

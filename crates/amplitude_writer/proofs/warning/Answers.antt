@@ -6,7 +6,6 @@ use borrow.Author.Tests.{eq-eqb, ne_eqb}
 use Rattle.codewords.specs.CodeWords.{leap_number}
 use Rattle.plan.specs.Plan.{leap_at}
 use Rattle.amplitude_rules.specs.Writing.{warning_at}
-use borrow.Author.Rules.{rules}
 use Rattle.amplitude_writer.proofs.warning.Goals as goal
 
 pub returns-then-leap_number-eq0 : goal.returns-then-leap_number-eq0

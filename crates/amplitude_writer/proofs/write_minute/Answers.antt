@@ -4,7 +4,6 @@ use mathlib.Core.Path.{◌≡◌, sym, subst, ◌∙◌}
 use mathlib.Core.Bool.{true}
 use lib.IntN.{ℤ}
 use mir.Facts.{to_z-of_z}
-use borrow.Author.Tests.{not-true, not-false}
 use Rattle.messages.specs.Message.{Schedule, legal_schedule}
 use Rattle.messages.specs.Bytes.{schedule_of}
 use Rattle.messages.proofs.Schedules.{plan-illegal, messages-illegal, both-legal}
@@ -13,7 +12,6 @@ use Rattle.amplitude_rules.specs.Writing.{values_at}
 use Rattle.amplitude_rules.specs.declared.Values.{Values}
 use Rattle.amplitude_rules.proofs.Sent.{sent-legal}
 use Rattle.amplitude_writer.proofs.Answers.{no-1, no-3, no-18, no-4, all_yes}
-use borrow.Author.Rules.{rules}
 use Rattle.amplitude_writer.proofs.write_minute.Goals as goal
 
 pub returns-then-not-is_legal : goal.returns-then-not-is_legal

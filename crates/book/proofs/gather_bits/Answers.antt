@@ -1,9 +1,7 @@
-use Prim.Native.Nat.{◌+◌, ◌-◌, ◌<◌}
-use mathlib.Core.Logic.{⊎_elim}
-use mathlib.Core.Path.{◌≡◌, refl}
+use Prim.Native.Nat.{◌+◌, ◌<◌}
+use mathlib.Core.Path.{refl}
 use native.Mathlib.Omega.{arith}
 use lib.ListN.{length}
-use borrow.Author.Tests.{not-true, not-false}
 use Rattle.book.proofs.Gathering.{GatheredTo, GatheredTo, none-gathered, gathered-length, after-gap, after-bit, all-gathered}
 use Rattle.book.proofs.gather_bits.Goals as goal
 use Rattle.book.proofs.gather_bits.Goals.{then-not-is_gap, else-not-is_gap}

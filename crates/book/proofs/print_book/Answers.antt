@@ -8,7 +8,6 @@ use lib.ListN.{length, take, length-take}
 use Rattle.book.specs.Book.{bits_in}
 use Rattle.book.proofs.Gathering.{bits-few}
 use Rattle.book.proofs.Inputs.{too_long, bits-front, all-printed}
-use borrow.Author.Rules.{rules}
 use Rattle.book.proofs.print_book.Goals as goal
 
 pub returns-then-input-gt-BOOK_LIMIT : goal.returns-then-input-gt-BOOK_LIMIT

@@ -5,7 +5,6 @@ use native.Mathlib.Omega.{arith}
 use lib.ListN.{length}
 use Rattle.page_rules.specs.Printing.{pages_of}
 use Rattle.book.proofs.Recording.{pages-few, answers, pages-printed, never-no-space, refusal-put}
-use borrow.Author.Rules.{rules}
 use Rattle.book.proofs.print_recording.Goals as goal
 
 pub returns-in-Written : goal.returns-in-Written

@@ -5,7 +5,6 @@ use native.Mathlib.Omega.{arith}
 use lib.ListN.{length}
 use Rattle.listing.specs.Listing.{refused_text}
 use Rattle.book.proofs.Space.{refused-short, text-listed, never-unlisted}
-use borrow.Author.Rules.{rules}
 use Rattle.book.proofs.put_refusal.Goals as goal
 
 pub returns-in-Listed : goal.returns-in-Listed

@@ -1,6 +1,6 @@
 -- `cases::byte_at` meets its contract.
 -- Assumes nothing.
-use Rattle.std.proofs.Common.{arith, rules}
+use Rattle.std.proofs.Common.{arith}
 use Rattle.cases.proofs.Laws.{given-past, given-x, given-digit}
 use Rattle.cases.proofs.byte_at.Goals as goal
 

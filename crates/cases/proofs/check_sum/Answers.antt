@@ -1,5 +1,5 @@
-use Rattle.std.proofs.Common.{◌≡◌, ◌-◌, length, drop, sym, refl, ◌∙◌, arith}
-use Rattle.cases.specs.Cases.{folded, summed, check_sum}
+use Rattle.std.proofs.Common.{sym, refl, ◌∙◌, arith}
+use Rattle.cases.specs.Cases.{summed, check_sum}
 use Rattle.cases.proofs.Laws.{fold_more, fold_end}
 use Rattle.cases.proofs.check_sum.Goals as goal
 

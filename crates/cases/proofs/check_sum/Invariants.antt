@@ -1,8 +1,7 @@
 -- `cases::check_sum` meets its contract.
 -- Assumes nothing.
-use Rattle.std.proofs.Common.{◌≡◌, ◌-◌, length, drop, sym, refl, ◌∙◌, arith}
-use Rattle.cases.specs.Cases.{folded, summed, check_sum}
-use Rattle.cases.proofs.Laws.{fold_more, fold_end}
+use Rattle.std.proofs.Common.{◌≡◌, ◌-◌, length, drop}
+use Rattle.cases.specs.Cases.{folded, summed}
 use Rattle.cases.proofs.check_sum.Given as goal
 
 abbrev pub invariant-loop-i : goal.invariant-loop-i

@@ -1,6 +1,6 @@
 -- `cases::count` meets its contract.
 -- Assumes nothing.
-use Rattle.std.proofs.Common.{rules, eq-eqb, ne_eqb}
+use Rattle.std.proofs.Common.{eq-eqb, ne_eqb}
 use Rattle.cases.specs.Cases.{count_in}
 use Rattle.cases.proofs.count.Goals as goal
 

@@ -1,6 +1,5 @@
-use Rattle.std.proofs.Common.{◌≡◌, ◌-◌, length, refl, ◌∙◌, arith, length-set}
-use Rattle.cases.specs.Cases.{given_at}
-use Rattle.cases.proofs.Laws.{LoadedTo, load-more}
+use Rattle.std.proofs.Common.{refl, ◌∙◌, arith, length-set}
+use Rattle.cases.proofs.Laws.{load-more}
 use Rattle.cases.proofs.load.Goals as goal
 
 pub loop-i-init : goal.loop-i-init

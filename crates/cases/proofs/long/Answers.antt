@@ -1,5 +1,5 @@
-use Rattle.std.proofs.Common.{◌≡◌, ◌-◌, length, drop, sym, refl, ap, ◌∙◌, arith}
-use Rattle.cases.specs.Cases.{folded, stepped, nothing_yet, long_at}
+use Rattle.std.proofs.Common.{sym, refl, ap, ◌∙◌, arith}
+use Rattle.cases.specs.Cases.{stepped, nothing_yet, long_at}
 use Rattle.cases.specs.declared.Scan.{Scan}
 use Rattle.cases.proofs.Laws.{fold_more, fold_end}
 use Rattle.cases.proofs.long.Goals as goal

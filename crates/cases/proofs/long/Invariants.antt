@@ -1,9 +1,7 @@
 -- `cases::long` meets its contract.
 -- Assumes nothing.
-use Rattle.std.proofs.Common.{◌≡◌, ◌-◌, length, drop, sym, refl, ap, ◌∙◌, arith}
-use Rattle.cases.specs.Cases.{folded, stepped, nothing_yet, long_at}
-use Rattle.cases.specs.declared.Scan.{Scan}
-use Rattle.cases.proofs.Laws.{fold_more, fold_end}
+use Rattle.std.proofs.Common.{◌≡◌, ◌-◌, length, drop}
+use Rattle.cases.specs.Cases.{folded, stepped, nothing_yet}
 use Rattle.cases.proofs.long.Given as goal
 
 abbrev pub invariant-loop-i : goal.invariant-loop-i

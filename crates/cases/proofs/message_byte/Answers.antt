@@ -1,6 +1,6 @@
 -- `cases::message_byte` meets its contract.
 -- Assumes nothing.
-use Rattle.std.proofs.Common.{◌∙◌, rules}
+use Rattle.std.proofs.Common.{◌∙◌}
 use Rattle.cases.proofs.Laws.{minute-byte, payload-byte}
 use Rattle.cases.proofs.message_byte.Goals as goal
 

@@ -1,6 +1,6 @@
-use Rattle.std.proofs.Common.{◌≡◌, ◌-◌, length, refl, ◌∙◌, arith, length-set}
+use Rattle.std.proofs.Common.{refl, ◌∙◌, arith, length-set}
 use Rattle.cases.specs.Cases.{message_byte}
-use Rattle.cases.proofs.Laws.{LoadedTo, load-more}
+use Rattle.cases.proofs.Laws.{load-more}
 use Rattle.cases.proofs.messages.Goals as goal
 
 pub loop-i-init : goal.loop-i-init

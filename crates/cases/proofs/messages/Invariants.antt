@@ -1,8 +1,8 @@
 -- `cases::messages` meets its contract.
 -- Assumes nothing.
-use Rattle.std.proofs.Common.{◌≡◌, ◌-◌, length, refl, ◌∙◌, arith, length-set}
+use Rattle.std.proofs.Common.{◌≡◌, ◌-◌, length}
 use Rattle.cases.specs.Cases.{message_byte}
-use Rattle.cases.proofs.Laws.{LoadedTo, load-more}
+use Rattle.cases.proofs.Laws.{LoadedTo}
 use Rattle.cases.proofs.messages.Given as goal
 
 abbrev pub invariant-loop-i : goal.invariant-loop-i

@@ -1,6 +1,5 @@
 -- `cases::number` meets its contract.
 -- Assumes nothing.
-use Rattle.std.proofs.Common.{rules}
 use Rattle.cases.specs.Cases.{number_at}
 use Rattle.cases.proofs.number.Goals as goal
 

@@ -1,6 +1,5 @@
 -- `cases::plan` meets its contract.
 -- Assumes nothing.
-use Rattle.std.proofs.Common.{rules}
 use Rattle.cases.specs.Cases.{plan_in}
 use Rattle.cases.proofs.Laws.{signed_back}
 use Rattle.cases.proofs.plan.Goals as goal

@@ -1,6 +1,6 @@
 -- `cases::signed` meets its contract.
 -- Assumes nothing.
-use Rattle.std.proofs.Common.{◌%◌, ◌∙◌, arith, rules}
+use Rattle.std.proofs.Common.{◌%◌, ◌∙◌, arith}
 use Rattle.line.proofs.Signs.{pos-back, neg-fits, neg-back}
 use Rattle.cases.proofs.Laws.{signed_below, signed_above}
 use Rattle.cases.proofs.signed.Goals as goal

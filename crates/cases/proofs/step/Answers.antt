@@ -1,6 +1,6 @@
 -- `cases::step` meets its contract.
 -- Assumes nothing.
-use Rattle.std.proofs.Common.{◌∙◌, arith, rules}
+use Rattle.std.proofs.Common.{◌∙◌, arith}
 use Rattle.cases.proofs.Laws.{low_byte, high_byte, digit-byte}
 use Rattle.cases.proofs.step.Goals as goal
 

@@ -1,6 +1,5 @@
 -- `cases::with_digit` meets its contract.
 -- Assumes nothing.
-use Rattle.std.proofs.Common.{rules}
 use Rattle.cases.proofs.with_digit.Goals as goal
 
 pub returns-then-wanted : goal.returns-then-wanted

@@ -3,7 +3,6 @@
 use Prim.Native.Nat.{◌<◌}
 use mathlib.Core.Path.{◌≡◌, sym, ◌∙◌}
 use native.Mathlib.Omega.{arith}
-use borrow.Author.Rules.{rules}
 use Rattle.codewords.specs.CodeWords.{daylight_number, row_of}
 use Rattle.codewords.proofs.Rows.{half-has, half-lacks}
 use Rattle.codewords.proofs.Answers.{assigned, unassigned-as}

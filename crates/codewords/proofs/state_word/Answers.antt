@@ -1,7 +1,6 @@
 -- `codewords::state_word` meets its contract.
 -- Assumes nothing.
 use native.Mathlib.Omega.{arith}
-use borrow.Author.Rules.{rules}
 use Rattle.codewords.specs.CodeWords.{state_words}
 use Rattle.codewords.proofs.Tables.{daylight-lt, leap-lt}
 use Rattle.codewords.proofs.state_word.Goals as goal

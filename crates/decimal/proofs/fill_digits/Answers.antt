@@ -1,8 +1,8 @@
-use Prim.Native.Nat.{suc, ◌+◌, ◌-◌, ◌%◌, ◌≤◌}
-use mathlib.Core.List.{◌++◌, append-nil}
+use Prim.Native.Nat.{suc, ◌+◌, ◌-◌, ◌%◌}
+use mathlib.Core.List.{append-nil}
 use mathlib.Core.Path.{◌≡◌, refl, sym, ◌∙◌}
 use native.Mathlib.Omega.{arith}
-use lib.ListN.{length, drop, length-set}
+use lib.ListN.{length, length-set}
 use lib.Seq.{drop-length}
 use Rattle.decimal.specs.Decimal.{digits}
 use Rattle.decimal.proofs.Laws.{fill-next}

@@ -1,13 +1,10 @@
 -- `decimal::fill_digits` meets its contract. The loop's invariant: the digits of rest, with what stands from place i on after them, are the digits of n.
 -- Assumes nothing.
-use Prim.Native.Nat.{suc, ◌+◌, ◌-◌, ◌%◌, ◌≤◌}
-use mathlib.Core.List.{◌++◌, append-nil}
-use mathlib.Core.Path.{◌≡◌, refl, sym, ◌∙◌}
-use native.Mathlib.Omega.{arith}
-use lib.ListN.{length, drop, length-set}
-use lib.Seq.{drop-length}
+use Prim.Native.Nat.{◌≤◌}
+use mathlib.Core.List.{◌++◌}
+use mathlib.Core.Path.{◌≡◌}
+use lib.ListN.{length, drop}
 use Rattle.decimal.specs.Decimal.{digits}
-use Rattle.decimal.proofs.Laws.{fill-next}
 use Rattle.decimal.proofs.fill_digits.Given as goal
 
 abbrev pub invariant-loop-i : goal.invariant-loop-i

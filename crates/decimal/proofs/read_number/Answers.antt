@@ -1,13 +1,12 @@
 use Prim.Native.Nat.{ℕ, ◌+◌, ◌-◌, ◌*◌, ◌^◌, ◌≤◌, ◌<◌}
 use mathlib.Core.Bool.{and-false}
 use mathlib.Core.List.{List}
-use mathlib.Core.Path.{◌≡◌, refl, sym, ◌∙◌}
+use mathlib.Core.Path.{sym, ◌∙◌}
 use native.Mathlib.Nat.{pow-le-pow_right}
 use native.Mathlib.Omega.{arith}
-use lib.ListN.{length, get_or, drop}
+use lib.ListN.{length, get_or}
 use borrow.Author.Tests.{lt-leb}
-use Rattle.bits.specs.Bits.{all}
-use Rattle.decimal.specs.Decimal.{is_digit, value_from, is_whole, is_number, number_in}
+use Rattle.decimal.specs.Decimal.{is_whole, is_number, number_in}
 use Rattle.decimal.proofs.Laws.{value-next, value-lt, low_byte, high_byte, digit-byte, no_number, digits-on, yes-number}
 use Rattle.decimal.proofs.read_number.Goals as goal
 use Rattle.decimal.proofs.read_number.Goals.{Else-s-i-gt-NINE}

@@ -7,7 +7,6 @@ use native.Mathlib.Omega.{arith}
 use lib.ListN.{length, take, drop}
 use lib.Seq.{length-take-le}
 use Rattle.decimal.specs.Decimal.{width, digits, decimal}
-use borrow.Author.Rules.{rules}
 use Rattle.decimal.proofs.write_decimal.Goals as goal
 
 pub slice_bounds-fill_digits-end-2 : goal.slice_bounds-fill_digits-end-2

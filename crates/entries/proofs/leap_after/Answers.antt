@@ -1,7 +1,6 @@
 -- `entries::leap_after` meets its contract.
 -- Assumes nothing.
 use mathlib.Core.Path.{sym, ◌∙◌}
-use borrow.Author.Rules.{rules}
 use Rattle.entries.proofs.leap_after.Goals as goal
 
 pub returns-then-is_last_of_month : goal.returns-then-is_last_of_month

@@ -1,6 +1,5 @@
 -- `entries::leap_after_time` meets its contract.
 -- Assumes nothing.
-use borrow.Author.Rules.{rules}
 use Rattle.entries.proofs.leap_after_time.Goals as goal
 
 pub returns : goal.returns

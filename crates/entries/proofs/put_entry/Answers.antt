@@ -1,7 +1,6 @@
 -- `entries::put_entry` meets its contract.
 -- Assumes nothing.
 use Rattle.format.specs.Entry.{entry_bytes}
-use borrow.Author.Rules.{rules}
 use Rattle.entries.proofs.put_entry.Goals as goal
 
 pub returns : goal.returns

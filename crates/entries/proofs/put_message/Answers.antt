@@ -2,7 +2,6 @@
 -- Assumes nothing.
 use Rattle.format.specs.Entry.{entry_bytes}
 use Rattle.format.specs.Message.{message_entry}
-use borrow.Author.Rules.{rules}
 use Rattle.entries.proofs.put_message.Goals as goal
 
 pub returns : goal.returns

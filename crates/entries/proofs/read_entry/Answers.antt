@@ -2,7 +2,6 @@
 -- Assumes nothing.
 use mathlib.Core.Path.{◌≡◌, sym, ap, ◌∙◌}
 use native.Mathlib.Omega.{arith}
-use borrow.Author.Rules.{rules}
 use Rattle.format.specs.Entry.{Entry}
 use Rattle.format.specs.Message.{message_entry}
 use Rattle.format.specs.Next.{refused, entry, read_next}

@@ -2,12 +2,10 @@ use Prim.Native.Nat.{ℕ, suc, ◌+◌, ◌-◌, ◌*◌, ◌/◌, ◌≤◌, �
 use mathlib.Core.Path.{◌≡◌, refl, sym, ap, ◌∙◌}
 use mathlib.Core.Bool.{false}
 use native.Mathlib.Omega.{arith}
-use borrow.Author.Rules.{rules}
 use mathlib.Core.List.{List, [], ◌++◌}
 use native.Mathlib.Nat.{sub-zero}
 use lib.ListN.{length, take, drop, length-drop, drop_of_length-le}
 use Rattle.format.specs.Entry.{Entry, entry_size, entry_bytes}
-use Rattle.format.specs.Questions.{after}
 use Rattle.format.specs.Next.{Answer, refused, entry, read_next, read_entry, one_outcome}
 use Rattle.format.specs.declared.Due.{Due}
 use Rattle.format.specs.declared.Due.TheVariants.{Minute}

@@ -1,28 +1,11 @@
 -- `entries::read_from` meets its contract.
 -- Assumes nothing.
-use Prim.Native.Nat.{ℕ, suc, ◌+◌, ◌-◌, ◌*◌, ◌/◌, ◌≤◌, ◌<◌}
-use mathlib.Core.Path.{◌≡◌, refl, sym, ap, ◌∙◌}
-use mathlib.Core.Bool.{false}
-use native.Mathlib.Omega.{arith}
-use borrow.Author.Rules.{rules}
-use mathlib.Core.List.{List, [], ◌++◌}
-use native.Mathlib.Nat.{sub-zero}
-use lib.ListN.{length, take, drop, length-drop, drop_of_length-le}
-use Rattle.format.specs.Entry.{Entry, entry_size, entry_bytes}
-use Rattle.format.specs.Questions.{after}
-use Rattle.format.specs.Next.{Answer, refused, entry, read_next, read_entry, one_outcome}
-use Rattle.format.specs.declared.Due.{Due}
-use Rattle.format.specs.declared.Due.TheVariants.{Minute}
-use Rattle.frame.specs.Answer.{refusal_number}
-use Rattle.format.proofs.Accepted.{Accepted, accepted}
-use Rattle.format.proofs.One.{yes-5}
-use Rattle.sequence.specs.Reading.{stop, read_frames, read_from, due_from, Outcome}
-use Rattle.sequence.proofs.Resume.{resume, resume-none, resume-stop}
-use Rattle.sequence.proofs.Steps.{ended}
-use Rattle.sequence.proofs.Tails.{tail}
-use Rattle.entries.specs.Answer.{progress, step_numbers}
-use Rattle.entries.proofs.Progress.{halted, Advanced, advanced, room_of, refused-step}
-use Rattle.entries.proofs.Turn.{same_back, put-length, turn, turn-due}
+use Prim.Native.Nat.{◌-◌, ◌*◌, ◌/◌, ◌≤◌}
+use mathlib.Core.Path.{◌≡◌}
+use lib.ListN.{length, drop}
+use Rattle.format.specs.Entry.{entry_size}
+use Rattle.sequence.specs.Reading.{read_frames, read_from, due_from}
+use Rattle.sequence.proofs.Resume.{resume}
 use Rattle.entries.proofs.read_from.Given as goal
 
 abbrev pub invariant-loop-used : goal.invariant-loop-used

@@ -10,7 +10,6 @@ use Rattle.plan.specs.declared.Plan.{Plan}
 use Rattle.plan.proofs.Laws.{same-daylight}
 use Rattle.plan.proofs.Rows.{notice-legal}
 use Rattle.format.proofs.Sending.{state-word-small, next-word-small, state_word_at, next_word_at, day-word-is}
-use borrow.Author.Rules.{rules}
 use Rattle.frame.proofs.day_word.Goals as goal
 
 pub day_part-requires : goal.day_part-requires

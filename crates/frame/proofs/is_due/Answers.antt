@@ -1,7 +1,6 @@
 -- `frame::is_due` meets its contract.
 -- Assumes nothing.
 use Rattle.format.specs.Questions.{follows}
-use borrow.Author.Rules.{rules}
 use Rattle.frame.proofs.is_due.Goals as goal
 
 pub returns-in-Any : goal.returns-in-Any

@@ -1,6 +1,5 @@
 -- `frame::length_for` meets its contract.
 -- Assumes nothing.
-use borrow.Author.Rules.{rules}
 use Rattle.frame.proofs.length_for.Goals as goal
 
 pub returns : goal.returns

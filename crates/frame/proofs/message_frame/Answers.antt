@@ -2,7 +2,6 @@
 -- Assumes nothing.
 use native.Mathlib.Omega.{arith}
 use Rattle.plan.proofs.Rows.{notice-legal}
-use borrow.Author.Rules.{rules}
 use Rattle.frame.proofs.message_frame.Goals as goal
 
 pub message_part-requires : goal.message_part-requires

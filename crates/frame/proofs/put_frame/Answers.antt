@@ -3,7 +3,6 @@
 use Prim.Native.Nat.{◌≤◌}
 use Rattle.plan.proofs.Rows.{length-range}
 use Rattle.format.specs.Frame.{min_frame, max_frame}
-use borrow.Author.Rules.{rules}
 use Rattle.frame.proofs.put_frame.Goals as goal
 
 pub put_word-requires : goal.put_word-requires

@@ -8,7 +8,6 @@ use lib.Seq.{length-take-le}
 use Rattle.bits.specs.Bits.{bits}
 use Rattle.format.specs.Frame.{min_frame}
 use Rattle.format.proofs.Sending.{word-bits}
-use borrow.Author.Rules.{rules}
 use Rattle.frame.proofs.put_word.Goals as goal
 use Rattle.frame.proofs.put_word.Goals.{Start}
 

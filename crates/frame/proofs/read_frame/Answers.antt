@@ -3,7 +3,6 @@
 use Prim.Native.Nat.{ℕ, ◌/◌, ◌^◌}
 use mathlib.Core.Path.{◌≡◌, sym, ap, ◌∙◌}
 use mathlib.Core.List.{List}
-use borrow.Author.Rules.{rules}
 use lib.ListN.{take}
 use Rattle.bits.specs.Bits.{bits, number}
 use Rattle.codewords.specs.CodeWords.{state_answer, state_reading}

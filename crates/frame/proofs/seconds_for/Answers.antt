@@ -2,7 +2,6 @@
 -- Assumes nothing.
 use mathlib.Core.Path.{◌∙◌}
 use native.Mathlib.Omega.{arith}
-use borrow.Author.Rules.{rules}
 use Rattle.format.specs.Reading.{seconds_for}
 use Rattle.frame.proofs.Lengths.{shorter, longer}
 use Rattle.frame.proofs.seconds_for.Goals as goal

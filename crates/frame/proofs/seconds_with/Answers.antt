@@ -1,6 +1,5 @@
 -- `frame::seconds_with` meets its contract.
 -- Assumes nothing.
-use borrow.Author.Rules.{rules}
 use Rattle.frame.proofs.seconds_with.Goals as goal
 
 pub returns-then-is_last_of_month : goal.returns-then-is_last_of_month

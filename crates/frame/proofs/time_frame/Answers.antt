@@ -8,7 +8,6 @@ use Rattle.plan.specs.declared.Plan.{Plan}
 use Rattle.plan.proofs.Rows.{notice-legal}
 use Rattle.format.specs.Frame.{min_frame, body_of, sent_by}
 use Rattle.format.proofs.Sending.{time-lt, body-lt, word-is}
-use borrow.Author.Rules.{rules}
 use Rattle.frame.proofs.time_frame.Goals as goal
 
 pub time_part-requires : goal.time_part-requires

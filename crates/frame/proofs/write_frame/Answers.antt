@@ -8,7 +8,6 @@ use Rattle.plan.specs.Plan.{length_at}
 use Rattle.plan.proofs.Rows.{notice-legal}
 use Rattle.format.specs.Frame.{sent_by}
 use Rattle.format.proofs.Sending.{body-lt, frame-bits}
-use borrow.Author.Rules.{rules}
 use Rattle.frame.proofs.write_frame.Goals as goal
 use Rattle.frame.proofs.write_frame.Goals.{Start}
 

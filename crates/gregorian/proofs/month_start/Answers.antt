@@ -1,6 +1,5 @@
 -- `gregorian::month_start` meets its contract. Assumes nothing.
 use Prim.Native.Nat.{◌+◌}
-use borrow.Author.Rules.{rules}
 use native.Mathlib.Omega.{arith}
 use Rattle.gregorian.specs.Gregorian.{first_year, year_count, year_lengths, month_start}
 use Rattle.gregorian.proofs.Walk.{before-mono}

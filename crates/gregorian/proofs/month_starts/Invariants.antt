@@ -1,14 +1,9 @@
 -- `gregorian::month_starts` meets its contract: each start is the sum of the months passed, which have at most 366 days.
 -- Assumes nothing.
 use Prim.Native.Nat.{ℕ, ◌+◌, ◌≤◌, ◌-◌}
-use mathlib.Core.Path.{◌≡◌, refl, sym, ◌∙◌}
-use native.Mathlib.Numerals.{add-one}
-use native.Mathlib.Omega.{arith}
-use borrow.Author.Rules.{rules}
-use lib.ListN.{length, get_or, length-set}
+use mathlib.Core.Path.{◌≡◌}
+use lib.ListN.{length, get_or}
 use Rattle.gregorian.specs.Gregorian.{first_year, before, months_of}
-use Rattle.gregorian.proofs.Walk.{before-suc, filled}
-use Rattle.gregorian.proofs.Months.{length-months, months-short}
 use Rattle.gregorian.proofs.month_starts.Given as goal
 
 abbrev pub invariant-loop-i : goal.invariant-loop-i

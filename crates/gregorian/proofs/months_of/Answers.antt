@@ -1,6 +1,5 @@
 -- `gregorian::months_of` meets its contract: each row of the table is that of the definition.
 -- Assumes nothing.
-use borrow.Author.Rules.{rules}
 use Rattle.gregorian.specs.Gregorian.{months_of, month_lengths}
 use Rattle.gregorian.proofs.months_of.Goals as goal
 

@@ -4,7 +4,6 @@ use Prim.Native.Nat.{◌+◌, ◌/◌}
 use mathlib.Core.Path.{◌≡◌, ap}
 use native.Mathlib.Numerals.{add-one}
 use native.Mathlib.Omega.{arith}
-use borrow.Author.Rules.{rules}
 use Rattle.gregorian.specs.Gregorian.{year_of_day}
 use Rattle.gregorian.specs.declared.Place.{Place}
 use Rattle.gregorian.proofs.Years.{before-closed, year-at, guess-low, guess-high, in-range}

@@ -1,7 +1,6 @@
 -- `irig::clock_at` meets its contract.
 -- Assumes nothing.
 use Rattle.irig_rules.specs.Irig.{clock_at}
-use borrow.Author.Rules.{rules}
 use Rattle.irig.proofs.clock_at.Goals as goal
 
 pub returns : goal.returns

@@ -4,7 +4,6 @@ use Prim.Native.Nat.{◌/◌}
 use native.Mathlib.Omega.{arith}
 use Rattle.gregorian.proofs.Months.{Placed, placed, year-low, year-rest-is, year-index}
 use Rattle.irig_rules.specs.Irig.{day_of_year}
-use borrow.Author.Rules.{rules}
 use Rattle.irig.proofs.day_of_year.Goals as goal
 use Rattle.irig.proofs.day_of_year.Goals.{Start}
 

@@ -1,7 +1,6 @@
 -- `irig::ends_month` meets its contract.
 -- Assumes nothing.
 use Rattle.irig.proofs.MonthEnds.{in-january, after-january}
-use borrow.Author.Rules.{rules}
 use Rattle.irig.proofs.ends_month.Goals as goal
 
 pub returns-then-day-lt32 : goal.returns-then-day-lt32

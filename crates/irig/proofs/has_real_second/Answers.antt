@@ -2,7 +2,6 @@
 -- Assumes nothing.
 use borrow.Author.Tests.{lt-ltb, le-ltb, eq-eqb, ne_eqb}
 use Rattle.irig_rules.specs.Reading.{real_second}
-use borrow.Author.Rules.{rules}
 use Rattle.irig.proofs.has_real_second.Goals as goal
 
 pub returns-then-c-lt60 : goal.returns-then-c-lt60

@@ -2,7 +2,6 @@
 -- Assumes nothing.
 use borrow.Author.Tests.{lt-ltb, le-ltb, le-leb, lt-leb}
 use Rattle.irig_rules.specs.Reading.{real_clock}
-use borrow.Author.Rules.{rules}
 use Rattle.irig.proofs.is_real.Goals as goal
 
 pub returns-then-c-lt1 : goal.returns-then-c-lt1

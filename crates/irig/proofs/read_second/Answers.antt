@@ -4,12 +4,10 @@ use Prim.Native.Nat.{ℕ}
 use mathlib.Core.Bool.{true}
 use mathlib.Core.List.{List, [], ◌∷◌}
 use mathlib.Core.Path.{◌≡◌, sym, ap, ◌∙◌}
-use borrow.Author.Tests.{not-true, not-false}
 use Rattle.bits.specs.Numbers.{found}
 use Rattle.irig_rules.specs.Reading.{real_clock}
 use Rattle.irig_rules.specs.declared.Clock.{Clock}
 use Rattle.irig.proofs.Reading.{other_length, not-real, not-row, is_row}
-use borrow.Author.Rules.{rules}
 use Rattle.irig.proofs.read_second.Goals as goal
 
 pub returns-then-elements-ne-ELEMENTS : goal.returns-then-elements-ne-ELEMENTS

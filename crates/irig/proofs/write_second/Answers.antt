@@ -4,7 +4,6 @@ use Prim.Native.Nat.{◌<◌}
 use mathlib.Core.Bool.{true}
 use mathlib.Core.Path.{◌≡◌, sym, ap, ◌∙◌}
 use native.Mathlib.Omega.{arith}
-use borrow.Author.Tests.{not-true, not-false}
 use Rattle.plan.specs.Plan.{length_at}
 use Rattle.messages.specs.Message.{Schedule, legal_schedule}
 use Rattle.messages.specs.Bytes.{schedule_of}
@@ -12,7 +11,6 @@ use Rattle.messages.proofs.Schedules.{plan-illegal, messages-illegal, both-legal
 use Rattle.irig_rules.specs.Reading.{real_clock}
 use Rattle.irig_rules.proofs.Given.{clock-real}
 use Rattle.irig.proofs.Writing.{no-1, no-3, no-21, no-4, all_yes}
-use borrow.Author.Rules.{rules}
 use Rattle.irig.proofs.write_second.Goals as goal
 
 pub returns-then-not-is_legal : goal.returns-then-not-is_legal

@@ -1,7 +1,6 @@
 -- `irig_row::clock_in` meets its contract.
 -- Assumes nothing.
 use Rattle.irig_rules.specs.Reading.{clock_in}
-use borrow.Author.Rules.{rules}
 use Rattle.irig_row.proofs.clock_in.Goals as goal
 
 pub returns : goal.returns

@@ -1,8 +1,5 @@
-use Prim.Native.Nat.{◌+◌, ◌-◌, ◌≤◌}
 use mathlib.Core.Path.{◌≡◌}
 use native.Mathlib.Omega.{arith}
-use lib.ListN.{drop}
-use Rattle.bits.specs.Bits.{distance}
 use Rattle.irig_rules.specs.Irig.{element_count}
 use Rattle.irig_row.proofs.Differing.{same_place, other_place, no_place}
 use Rattle.irig_row.proofs.differences.Goals as goal

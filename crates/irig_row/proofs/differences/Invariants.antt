@@ -1,13 +1,10 @@
 -- `irig_row::differences` meets its contract. The loop's invariant: n places before i differ, and the others are left.
 -- Assumes nothing.
 use Prim.Native.Nat.{◌+◌, ◌-◌, ◌≤◌}
-use mathlib.Core.Logic.{⊎_elim}
 use mathlib.Core.Path.{◌≡◌}
-use native.Mathlib.Omega.{arith}
 use lib.ListN.{drop}
 use Rattle.bits.specs.Bits.{distance}
 use Rattle.irig_rules.specs.Irig.{element_count}
-use Rattle.irig_row.proofs.Differing.{same_place, other_place, no_place}
 use Rattle.irig_row.proofs.differences.Given as goal
 
 abbrev pub invariant-loop-i : goal.invariant-loop-i

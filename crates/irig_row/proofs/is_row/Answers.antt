@@ -6,7 +6,6 @@ use mathlib.Core.Path.{ap, ◌∙◌}
 use lib.Dec.{eqb}
 use Rattle.bits.specs.Bits.{distance}
 use Rattle.irig_rules.specs.Irig.{elements_of}
-use borrow.Author.Rules.{rules}
 use Rattle.irig_row.proofs.is_row.Goals as goal
 
 pub returns : goal.returns

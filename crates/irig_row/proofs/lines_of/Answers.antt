@@ -3,7 +3,6 @@
 use native.Mathlib.Omega.{arith}
 use Rattle.irig_rules.proofs.Facts.{Real, real, second-high}
 use Rattle.irig_row.specs.Row.{lines_of}
-use borrow.Author.Rules.{rules}
 use Rattle.irig_row.proofs.lines_of.Goals as goal
 use Rattle.irig_row.proofs.lines_of.Goals.{Start}
 

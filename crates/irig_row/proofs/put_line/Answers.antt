@@ -6,7 +6,6 @@ use mathlib.Core.Path.{ap, ◌∙◌}
 use native.Mathlib.Omega.{arith}
 use lib.ListN.{take, drop, length-set}
 use Rattle.irig_row.proofs.Putting.{line-put}
-use borrow.Author.Rules.{rules}
 use Rattle.irig_row.proofs.put_line.Goals as goal
 
 pub bounds-out-i-2 : goal.bounds-out-i-2

@@ -1,11 +1,10 @@
-use Prim.Native.Nat.{◌-◌, ◌≤◌}
 use mathlib.Core.Path.{◌≡◌, refl}
 use native.Mathlib.Omega.{arith}
 use lib.ListN.{length}
 use lib.Seq.{take_all}
 use Rattle.bits.specs.Bits.{concat}
 use Rattle.irig_row.specs.Row.{row_elements}
-use Rattle.irig_row.proofs.Putting.{Put, next-line}
+use Rattle.irig_row.proofs.Putting.{next-line}
 use Rattle.irig_row.proofs.put_lines.Goals as goal
 
 pub loop-k-init : goal.loop-k-init

@@ -1,13 +1,9 @@
 -- `irig_row::put_lines` meets its contract. The loop's invariant: the first k lines stand first in out.
 -- Assumes nothing.
 use Prim.Native.Nat.{◌-◌, ◌≤◌}
-use mathlib.Core.Path.{◌≡◌, refl}
-use native.Mathlib.Omega.{arith}
+use mathlib.Core.Path.{◌≡◌}
 use lib.ListN.{length}
-use lib.Seq.{take_all}
-use Rattle.bits.specs.Bits.{concat}
-use Rattle.irig_row.specs.Row.{row_elements}
-use Rattle.irig_row.proofs.Putting.{Put, next-line}
+use Rattle.irig_row.proofs.Putting.{Put}
 use Rattle.irig_row.proofs.put_lines.Given as goal
 
 abbrev pub invariant-loop-k : goal.invariant-loop-k

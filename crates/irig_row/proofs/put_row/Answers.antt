@@ -7,7 +7,6 @@ use lib.ListN.{drop, set}
 use Rattle.irig_rules.specs.Irig.{identifier}
 use Rattle.irig_row.specs.Row.{row_elements}
 use Rattle.irig_row.proofs.Rows.{row_put}
-use borrow.Author.Rules.{rules}
 use Rattle.irig_row.proofs.put_row.Goals as goal
 
 pub returns : goal.returns

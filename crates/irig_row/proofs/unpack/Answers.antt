@@ -1,6 +1,5 @@
 -- `irig_row::unpack` meets its contract.
 -- Assumes nothing.
-use borrow.Author.Rules.{rules}
 use Rattle.irig_row.proofs.Eight.{unpacked-low}
 use Rattle.irig_row.proofs.unpack.Goals as goal
 

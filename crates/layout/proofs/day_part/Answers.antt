@@ -2,7 +2,6 @@
 -- Assumes nothing.
 use mathlib.Core.Path.{sym}
 use Rattle.format.proofs.Sending.{day-part-number}
-use borrow.Author.Rules.{rules}
 use Rattle.layout.proofs.day_part.Goals as goal
 
 pub returns : goal.returns

@@ -1,7 +1,6 @@
 -- `layout::echo_right` meets its contract.
 -- Assumes nothing.
 use Prim.Native.Nat.{◌%◌}
-use borrow.Author.Rules.{rules}
 use borrow.Author.Tests.{eq-eqb, ne_eqb}
 use Rattle.layout.proofs.echo_right.Goals as goal
 

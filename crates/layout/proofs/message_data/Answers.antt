@@ -1,7 +1,6 @@
 -- `layout::message_data` meets its contract.
 -- Assumes nothing.
 use native.Mathlib.Omega.{arith}
-use borrow.Author.Rules.{rules}
 use Rattle.format.proofs.Words.{data-number}
 use Rattle.layout.proofs.message_data.Goals as goal
 

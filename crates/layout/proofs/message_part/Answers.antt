@@ -2,7 +2,6 @@
 -- Assumes nothing.
 use mathlib.Core.Path.{sym}
 use Rattle.format.proofs.Words.{message-number}
-use borrow.Author.Rules.{rules}
 use Rattle.layout.proofs.message_part.Goals as goal
 
 pub returns : goal.returns

@@ -1,7 +1,6 @@
 -- `layout::notice_bit` meets its contract.
 -- Assumes nothing.
 use mathlib.Core.Path.{sym}
-use borrow.Author.Rules.{rules}
 use Rattle.format.proofs.Words.{notice-bit}
 use Rattle.layout.proofs.notice_bit.Goals as goal
 

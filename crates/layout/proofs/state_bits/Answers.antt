@@ -1,7 +1,6 @@
 -- `layout::state_bits` meets its contract.
 -- Assumes nothing.
 use mathlib.Core.Path.{sym}
-use borrow.Author.Rules.{rules}
 use Rattle.format.proofs.Words.{state-number}
 use Rattle.layout.proofs.state_bits.Goals as goal
 

@@ -2,7 +2,6 @@
 -- Assumes nothing.
 use native.Mathlib.Omega.{arith}
 use Rattle.format.proofs.Sending.{time-part-number}
-use borrow.Author.Rules.{rules}
 use Rattle.layout.proofs.time_part.Goals as goal
 
 pub returns : goal.returns

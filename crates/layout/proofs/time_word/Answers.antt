@@ -1,7 +1,6 @@
 -- `layout::time_word` meets its contract.
 -- Assumes nothing.
 use mathlib.Core.Path.{sym}
-use borrow.Author.Rules.{rules}
 use Rattle.format.proofs.Words.{time-number}
 use Rattle.layout.proofs.time_word.Goals as goal
 

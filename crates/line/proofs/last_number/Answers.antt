@@ -3,7 +3,6 @@
 use mathlib.Core.Path.{ap, ◌∙◌}
 use Rattle.decimal.specs.Decimal.{number_in}
 use Rattle.line.specs.Line.{last_part}
-use borrow.Author.Rules.{rules}
 use borrow.Author.Rules.{part_to_end}
 use Rattle.line.proofs.last_number.Goals as goal
 

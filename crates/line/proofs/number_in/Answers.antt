@@ -2,7 +2,6 @@
 -- Assumes nothing.
 use mathlib.Core.Path.{ap, ◌∙◌}
 use Rattle.decimal.specs.Decimal.{number_in}
-use borrow.Author.Rules.{rules}
 use Rattle.line.proofs.number_in.Goals as goal
 
 pub returns : goal.returns

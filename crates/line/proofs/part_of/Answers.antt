@@ -1,7 +1,6 @@
 -- `line::part_of` meets its contract.
 -- Assumes nothing.
 use Rattle.line.proofs.Parts.{cut-part}
-use borrow.Author.Rules.{rules}
 use Rattle.line.proofs.part_of.Goals as goal
 
 pub returns : goal.returns

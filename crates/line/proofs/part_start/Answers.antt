@@ -1,8 +1,6 @@
-use Prim.Native.Nat.{◌-◌, ◌≤◌}
 use mathlib.Core.Path.{◌≡◌, refl}
 use native.Mathlib.Numerals.{add-one}
 use native.Mathlib.Omega.{arith}
-use lib.ListN.{length, drop}
 use Rattle.line.specs.Line.{behind_spaces}
 use Rattle.line.proofs.Parts.{skip-space, skip-rest}
 use Rattle.line.proofs.part_start.Goals as goal

@@ -1,13 +1,9 @@
 -- `line::part_start` meets its contract.
 -- Assumes nothing.
 use Prim.Native.Nat.{◌-◌, ◌≤◌}
-use mathlib.Core.Logic.{⊎_elim}
-use mathlib.Core.Path.{◌≡◌, refl}
-use native.Mathlib.Numerals.{add-one}
-use native.Mathlib.Omega.{arith}
+use mathlib.Core.Path.{◌≡◌}
 use lib.ListN.{length, drop}
 use Rattle.line.specs.Line.{behind_spaces}
-use Rattle.line.proofs.Parts.{skip-space, skip-rest}
 use Rattle.line.proofs.part_start.Given as goal
 
 abbrev pub invariant-loop-i : goal.invariant-loop-i

@@ -5,7 +5,6 @@ use mathlib.Core.Path.{sym, ap, ◌∙◌}
 use Rattle.decimal.proofs.Reading.{number-value, number-none}
 use Rattle.line.specs.Line.{part, last_part, sign_in, is_line}
 use Rattle.line.proofs.Lines.{sign-value, sign-none, illegal, legal}
-use borrow.Author.Rules.{rules}
 use Rattle.line.proofs.read_line.Goals as goal
 
 -- a line of eight numbers

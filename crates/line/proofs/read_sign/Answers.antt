@@ -12,7 +12,6 @@ use Rattle.line.specs.Line.{has_minus, unsigned, sign_in}
 use Rattle.line.specs.declared.Sign.TheVariants.{NotANumber}
 use Rattle.line.proofs.Signs.{pos-fits, pos-back, neg-fits, neg-back}
 use Rattle.line.proofs.Lines.{minus, no_minus, no_sign, said-small, sign-is}
-use borrow.Author.Rules.{rules}
 use borrow.Author.Rules.{part_to_end}
 use Rattle.line.proofs.read_sign.Goals as goal
 use Rattle.line.proofs.read_sign.Goals.{In-Value, In-Value-number}

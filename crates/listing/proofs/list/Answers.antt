@@ -6,7 +6,6 @@ use Rattle.line.specs.Line.{line_in}
 use Rattle.line.proofs.Parts.{cut_line}
 use Rattle.listing.specs.Answer.{put_into}
 use Rattle.listing.proofs.Answers.{illegal-listing, legal-listing}
-use borrow.Author.Rules.{rules}
 use Rattle.listing.proofs.list.Goals as goal
 
 pub slice_bounds-read_line-end : goal.slice_bounds-read_line-end

@@ -5,7 +5,6 @@ use native.Mathlib.Omega.{arith}
 use lib.ListN.{length}
 use Rattle.listing.specs.Theorems.{listing_space}
 use Rattle.listing.proofs.Space.{all_listed, never-short}
-use borrow.Author.Rules.{rules}
 use Rattle.listing.proofs.list_all.Goals as goal
 
 pub returns-in-Listed : goal.returns-in-Listed

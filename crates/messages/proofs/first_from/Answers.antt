@@ -1,10 +1,9 @@
-use Prim.Native.Nat.{ℕ, suc, ◌-◌, ◌/◌, ◌≤◌, ◌<◌}
+use Prim.Native.Nat.{ℕ, suc, ◌≤◌, ◌<◌}
 use mathlib.Core.List.{List, ◌∷◌}
 use mathlib.Core.Path.{◌≡◌, sym, ap, ◌∙◌}
 use native.Mathlib.Numerals.{add-one}
 use native.Mathlib.Omega.{arith}
-use lib.ListN.{length}
-use Rattle.messages.specs.Bytes.{message_size, message_at, messages_in}
+use Rattle.messages.specs.Bytes.{message_at}
 use Rattle.messages.specs.Walk.{remaining, all_from}
 use Rattle.messages.proofs.Laws.{all_are, none_from, some-from}
 use Rattle.messages.proofs.Minutes.{none-remain, skip, keep}

@@ -1,15 +1,10 @@
 -- `messages::first_from` meets its contract. The loop's invariant: of the messages from message k on the same remain as of all.
 -- Assumes nothing.
-use Prim.Native.Nat.{ℕ, suc, ◌-◌, ◌/◌, ◌≤◌, ◌<◌}
-use mathlib.Core.List.{List, ◌∷◌}
-use mathlib.Core.Path.{◌≡◌, sym, ap, ◌∙◌}
-use native.Mathlib.Numerals.{add-one}
-use native.Mathlib.Omega.{arith}
+use Prim.Native.Nat.{◌-◌, ◌/◌, ◌≤◌}
+use mathlib.Core.Path.{◌≡◌}
 use lib.ListN.{length}
-use Rattle.messages.specs.Bytes.{message_size, message_at, messages_in}
+use Rattle.messages.specs.Bytes.{message_size, messages_in}
 use Rattle.messages.specs.Walk.{remaining, all_from}
-use Rattle.messages.proofs.Laws.{all_are, none_from, some-from}
-use Rattle.messages.proofs.Minutes.{none-remain, skip, keep}
 use Rattle.messages.proofs.first_from.Given as goal
 
 abbrev pub invariant-loop-k : goal.invariant-loop-k

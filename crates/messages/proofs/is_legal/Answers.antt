@@ -1,11 +1,10 @@
-use Prim.Native.Nat.{ℕ, suc, ◌-◌, ◌/◌, ◌≤◌, ◌<◌}
+use Prim.Native.Nat.{ℕ, suc, ◌≤◌, ◌<◌}
 use mathlib.Core.List.{List, ◌∷◌}
 use mathlib.Core.Path.{◌≡◌, refl, sym, ap, ◌∙◌}
 use native.Mathlib.Omega.{arith}
 use native.Mathlib.Numerals.{add-one}
-use lib.ListN.{length}
 use Rattle.messages.specs.Message.{Message, payload_limit, rising, legal_messages}
-use Rattle.messages.specs.Bytes.{message_size, message_at, messages_in}
+use Rattle.messages.specs.Bytes.{message_at, messages_in}
 use Rattle.messages.specs.Walk.{all_from}
 use Rattle.messages.proofs.Laws.{none_from, some-from, no_bytes, not-whole, all_are, many, few}
 use Rattle.messages.proofs.Minutes.{end, none-rise, early, past, large, next}

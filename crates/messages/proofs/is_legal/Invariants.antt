@@ -1,16 +1,11 @@
 -- `messages::is_legal` meets its contract. The loop's invariant: the messages from message k on rise from the minute `from` on exactly if all are legal.
 -- Assumes nothing.
-use Prim.Native.Nat.{ℕ, suc, ◌-◌, ◌/◌, ◌≤◌, ◌<◌}
-use mathlib.Core.List.{List, ◌∷◌}
-use mathlib.Core.Path.{◌≡◌, refl, sym, ap, ◌∙◌}
-use native.Mathlib.Omega.{arith}
-use native.Mathlib.Numerals.{add-one}
+use Prim.Native.Nat.{◌-◌, ◌/◌, ◌≤◌}
+use mathlib.Core.Path.{◌≡◌}
 use lib.ListN.{length}
-use Rattle.messages.specs.Message.{Message, payload_limit, rising, legal_messages}
-use Rattle.messages.specs.Bytes.{message_size, message_at, messages_in}
+use Rattle.messages.specs.Message.{rising, legal_messages}
+use Rattle.messages.specs.Bytes.{message_size, messages_in}
 use Rattle.messages.specs.Walk.{all_from}
-use Rattle.messages.proofs.Laws.{none_from, some-from, no_bytes, not-whole, all_are, many, few}
-use Rattle.messages.proofs.Minutes.{end, none-rise, early, past, large, next}
 use Rattle.messages.proofs.is_legal.Given as goal
 
 abbrev pub invariant-loop-k : goal.invariant-loop-k

@@ -3,7 +3,6 @@
 use Prim.Native.Nat.{◌*◌}
 use Rattle.messages.specs.Bytes.{message_size, message_at}
 use Rattle.messages.proofs.Laws.{four_is}
-use borrow.Author.Rules.{rules}
 use Rattle.messages.proofs.minute_at.Goals as goal
 
 pub returns : goal.returns

@@ -3,7 +3,6 @@
 use Prim.Native.Nat.{◌+◌, ◌*◌}
 use Rattle.messages.specs.Bytes.{message_size, message_at}
 use Rattle.messages.proofs.Laws.{six-is}
-use borrow.Author.Rules.{rules}
 use Rattle.messages.proofs.payload_at.Goals as goal
 
 pub returns : goal.returns

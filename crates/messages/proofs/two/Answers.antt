@@ -2,7 +2,6 @@
 -- Assumes nothing.
 use native.Mathlib.Omega.{arith}
 use Rattle.messages.proofs.Laws.{two_is}
-use borrow.Author.Rules.{rules}
 use Rattle.messages.proofs.two.Goals as goal
 
 pub returns : goal.returns

@@ -1,15 +1,13 @@
-use Prim.Native.Nat.{ℕ, ◌+◌, ◌-◌, ◌≤◌, ◌<◌}
-use mathlib.Core.List.{List, []}
+use Prim.Native.Nat.{ℕ, ◌+◌, ◌≤◌, ◌<◌}
+use mathlib.Core.List.{List}
 use mathlib.Core.Path.{◌≡◌, refl, sym, ap, ◌∙◌}
 use native.Mathlib.Omega.{arith}
-use borrow.Author.Rules.{rules}
-use lib.ListN.{length, take, drop, length-drop, drop_of_length-le}
+use lib.ListN.{length, drop, length-drop, drop_of_length-le}
 use lib.Seq.{drop-drop}
-use Rattle.format.specs.declared.Due.{Due}
 use Rattle.sequence.proofs.Tails.{tail}
 use Rattle.page_rules.specs.Printing.{read_all}
 use Rattle.page_rules.proofs.Reading.{sized}
-use Rattle.page.proofs.Parts.{part, Part, part-read, space-kept, Counting, counting-none, counted-complete, counted-refusal, out-of-space, counting-on, counted-all}
+use Rattle.page.proofs.Parts.{part, Part, part-read, space-kept, counting-none, counted-complete, counted-refusal, out-of-space, counting-on, counted-all}
 use Rattle.page.proofs.count_entries.Goals as goal
 
 pub loop-used-init : goal.loop-used-init

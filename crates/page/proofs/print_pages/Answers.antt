@@ -2,7 +2,6 @@
 -- Assumes nothing.
 use mathlib.Core.Path.{sym, ap, ◌∙◌}
 use native.Mathlib.Omega.{arith}
-use borrow.Author.Rules.{rules}
 use Rattle.page.specs.Answer.{count_numbers}
 use Rattle.page.proofs.Parts.{number-above}
 use Rattle.page.proofs.Answers.{print-refused, accepted, count-few, print-short, fits, print-done}

@@ -1,7 +1,6 @@
 -- `page::put_page` meets its contract.
 -- Assumes nothing.
 use native.Mathlib.Omega.{arith}
-use borrow.Author.Rules.{rules}
 use Rattle.page.specs.Rest.{page_entries}
 use Rattle.page.proofs.Lines.{put-page-made}
 use Rattle.page.proofs.Pages.{page-entries}

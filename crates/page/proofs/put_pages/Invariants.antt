@@ -1,17 +1,13 @@
 -- `page::put_pages` meets its contract.
 -- Assumes nothing.
-use Prim.Native.Nat.{ℕ, ◌+◌, ◌-◌, ◌*◌, ◌^◌, ◌≤◌, ◌<◌}
-use mathlib.Core.List.{List, ◌++◌, map}
-use mathlib.Core.Path.{◌≡◌, refl, sym, ap, subst, ◌∙◌}
-use native.Mathlib.Omega.{arith}
-use lib.ListN.{length, take, drop, length-drop, drop_of_length-le}
-use lib.Seq.{drop-drop}
-use Rattle.sequence.proofs.Tails.{tail}
-use Rattle.sequence.proofs.Putting.{Put, put-length}
-use Rattle.page_rules.specs.Page.{line, page, pages_from, page_count}
-use Rattle.page_rules.specs.Printing.{read_on, entries_of}
-use Rattle.page.specs.Rest.{page_entries, rest_after}
-use Rattle.page.proofs.Pages.{RestAfter, rest-after, Printing, printing-none, printed-all, page-within, printing-next, put-next-page, next-room, number_small}
+use Prim.Native.Nat.{◌-◌, ◌*◌, ◌≤◌}
+use mathlib.Core.List.{map}
+use mathlib.Core.Path.{◌≡◌}
+use lib.ListN.{length, drop}
+use Rattle.sequence.proofs.Putting.{Put}
+use Rattle.page_rules.specs.Page.{line, pages_from}
+use Rattle.page_rules.specs.Printing.{entries_of}
+use Rattle.page.proofs.Pages.{Printing}
 use Rattle.page.proofs.put_pages.Given as goal
 
 -- number - 1 pages are printed

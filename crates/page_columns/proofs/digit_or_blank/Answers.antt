@@ -1,7 +1,6 @@
 -- `page_columns::digit_or_blank` meets its contract.
 -- Assumes nothing.
 use borrow.Author.Tests.{eq-eqb, ne_eqb}
-use borrow.Author.Rules.{rules}
 use Rattle.page_columns.proofs.digit_or_blank.Goals as goal
 
 pub returns-then-left-eq0 : goal.returns-then-left-eq0

@@ -4,7 +4,6 @@ use Rattle.page_columns.specs.Bytes.{entry_in}
 use borrow.Author.Tests.{eq-eqb, ne_eqb}
 use lib.ListN.{get_or}
 use Rattle.page_columns.proofs.Texts.{message-is}
-use borrow.Author.Rules.{rules}
 use Rattle.page_columns.proofs.last_columns.Goals as goal
 
 pub returns-then-entry-eq0 : goal.returns-then-entry-eq0

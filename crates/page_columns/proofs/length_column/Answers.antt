@@ -1,7 +1,6 @@
 -- `page_columns::length_column` meets its contract.
 -- Assumes nothing.
 use Rattle.page_columns.proofs.Texts.{aligned-2}
-use borrow.Author.Rules.{rules}
 use Rattle.page_columns.proofs.length_column.Goals as goal
 
 pub returns : goal.returns

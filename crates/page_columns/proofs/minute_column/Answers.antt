@@ -1,7 +1,6 @@
 -- `page_columns::minute_column` meets its contract.
 -- Assumes nothing.
 use Rattle.page_columns.proofs.Texts.{aligned-8}
-use borrow.Author.Rules.{rules}
 use Rattle.page_columns.proofs.minute_column.Goals as goal
 
 pub returns : goal.returns

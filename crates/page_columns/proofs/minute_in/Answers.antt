@@ -2,7 +2,6 @@
 -- Assumes nothing.
 use Prim.Native.Nat.{◌+◌, ◌*◌}
 use Rattle.messages.proofs.Laws.{two_is, four_is}
-use borrow.Author.Rules.{rules}
 use Rattle.page_columns.proofs.minute_in.Goals as goal
 
 pub returns : goal.returns

@@ -2,7 +2,6 @@
 -- Assumes nothing.
 use Rattle.page_columns.proofs.Texts.{next, moment-is}
 use mathlib.Core.Path.{refl, ◌∙◌}
-use borrow.Author.Rules.{rules}
 use Rattle.page_columns.proofs.moment_columns.Goals as goal
 
 pub returns : goal.returns

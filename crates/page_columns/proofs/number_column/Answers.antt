@@ -3,7 +3,6 @@
 use native.Mathlib.Omega.{arith}
 use Rattle.page_rules.specs.Page.{feed}
 use Rattle.page_columns.proofs.Texts.{aligned-10}
-use borrow.Author.Rules.{rules}
 use Rattle.page_columns.proofs.number_column.Goals as goal
 
 pub returns : goal.returns

@@ -3,7 +3,6 @@
 use Rattle.page_columns.specs.Bytes.{entry_in}
 use Rattle.page_columns.proofs.Texts.{next, time-is}
 use mathlib.Core.Path.{refl, ◌∙◌}
-use borrow.Author.Rules.{rules}
 use Rattle.page_columns.proofs.time_columns.Goals as goal
 
 pub returns : goal.returns

@@ -1,6 +1,5 @@
 -- `plan::april_row` meets its contract.
 -- Assumes nothing.
-use borrow.Author.Rules.{rules}
 use borrow.Author.Tests.{eq-eqb, ne_eqb}
 use Rattle.plan.specs.Plan.{april_row}
 use Rattle.plan.proofs.april_row.Goals as goal

@@ -1,6 +1,5 @@
 -- `plan::april_sunday` meets its contract.
 -- Assumes nothing.
-use borrow.Author.Rules.{rules}
 use mathlib.Core.Path.{ap, ◌∙◌}
 use native.Mathlib.Omega.{arith}
 use Rattle.gregorian.proofs.Months.{month-start-in-range}

@@ -1,6 +1,5 @@
 -- `plan::changing_on` meets its contract.
 -- Assumes nothing.
-use borrow.Author.Rules.{rules}
 use Rattle.plan.specs.Plan.{changing}
 use Rattle.plan.proofs.changing_on.Goals as goal
 

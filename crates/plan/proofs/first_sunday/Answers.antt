@@ -1,6 +1,5 @@
 -- `plan::first_sunday` meets its contract.
 -- Assumes nothing.
-use borrow.Author.Rules.{rules}
 use Rattle.plan.specs.Plan.{first_sunday}
 use mathlib.Core.Path.{refl}
 use Rattle.plan.proofs.first_sunday.Goals as goal

@@ -1,6 +1,5 @@
 -- `plan::is_on` meets its contract.
 -- Assumes nothing.
-use borrow.Author.Rules.{rules}
 use Rattle.plan.proofs.is_on.Goals as goal
 
 pub returns-in-Standard : goal.returns-in-Standard

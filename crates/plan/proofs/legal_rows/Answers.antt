@@ -1,6 +1,5 @@
 -- `plan::legal_rows` meets its contract: at each return the tests on the way decide the tests of the definition.
 -- Assumes nothing.
-use borrow.Author.Rules.{rules}
 use Rattle.plan.specs.Plan.{legal_rows}
 use native.Mathlib.Omega.{arith}
 use borrow.Author.Tests.{le-leb, lt-leb, eq-eqb, ne_eqb}

@@ -1,6 +1,5 @@
 -- `plan::next_row` meets its contract.
 -- Assumes nothing.
-use borrow.Author.Rules.{rules}
 use Rattle.plan.proofs.next_row.Goals as goal
 
 pub returns-in-Standard : goal.returns-in-Standard

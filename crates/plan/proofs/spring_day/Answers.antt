@@ -1,6 +1,5 @@
 -- `plan::spring_day` meets its contract.
 -- Assumes nothing.
-use borrow.Author.Rules.{rules}
 use native.Mathlib.Omega.{arith}
 use Rattle.gregorian.proofs.Months.{month-start-in-range}
 use Rattle.plan.specs.Plan.{spring_day, march_sunday, weeks}

@@ -1,11 +1,9 @@
 -- `recording::bits_needed` meets its contract.
 -- Assumes nothing.
 use Prim.Native.Nat.{◌+◌, ◌*◌, ◌/◌}
-use mathlib.Core.Logic.{⊎_elim}
 use native.Mathlib.Omega.{arith}
 use Rattle.plan.proofs.Rows.{length-range}
 use Rattle.sequence.proofs.Sums.{seconds-in-day, seconds-over}
-use borrow.Author.Rules.{rules}
 use Rattle.recording.proofs.bits_needed.Goals as goal
 use Rattle.recording.proofs.bits_needed.Goals.{then-last-first, else-last-first}
 

@@ -1,7 +1,6 @@
 -- `recording::is_legal` meets its contract.
 -- Assumes nothing.
 use mathlib.Core.Path.{sym, ◌∙◌}
-use borrow.Author.Rules.{rules}
 use Rattle.messages.specs.Bytes.{schedule_of}
 use Rattle.messages.proofs.Schedules.{plan-illegal, by-messages}
 use Rattle.recording.proofs.is_legal.Goals as goal

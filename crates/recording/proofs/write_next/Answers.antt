@@ -5,7 +5,6 @@ use mathlib.Core.List.{List, ◌++◌}
 use mathlib.Core.Path.{ap, ◌∙◌}
 use lib.ListN.{drop}
 use Rattle.plan.specs.Plan.{length_at}
-use borrow.Author.Rules.{rules}
 use Rattle.recording.proofs.write_next.Goals as goal
 
 pub returns : goal.returns

@@ -5,13 +5,11 @@ use mathlib.Core.Path.{◌≡◌, sym, ◌∙◌}
 use mathlib.Core.Bool.{true}
 use mathlib.Core.List.{List}
 use native.Mathlib.Omega.{arith}
-use borrow.Author.Tests.{not-true, not-false}
 use Rattle.calendar.specs.Calendar.{minute_count}
 use Rattle.messages.specs.Message.{Schedule, legal_schedule}
 use Rattle.messages.specs.Bytes.{schedule_of}
 use Rattle.sequence.specs.Writing.{max_count}
 use Rattle.sequence.proofs.Refusals.{no-1, few, many, no-3, no-4, yes-4}
-use borrow.Author.Rules.{rules}
 use Rattle.recording.proofs.write_recording.Goals as goal
 
 pub returns-then-not-is_legal : goal.returns-then-not-is_legal

@@ -1,4 +1,4 @@
-use Rattle.std.proofs.Common.{arith, add-one, sym, rules}
+use Rattle.std.proofs.Common.{arith}
 use Rattle.spans.proofs.Bytes.{index-end, index-here, index-past}
 use Rattle.spans.proofs.find.Goals as goal
 

@@ -2,7 +2,6 @@
 -- Assumes nothing.
 use Prim.Native.Nat.{◌<◌}
 use native.Mathlib.Omega.{arith}
-use borrow.Author.Rules.{rules}
 use Rattle.timeword.proofs.Correct.{reading-is}
 use Rattle.timeword.proofs.Syndrome.{syndrome-lt, places, place_of, place-lt}
 use Rattle.timeword.proofs.decode.Goals as goal

@@ -4,7 +4,6 @@ use Prim.Native.Nat.{◌<◌}
 use mathlib.Core.Path.{◌∙◌, sym}
 use native.Mathlib.Omega.{arith}
 use lib.Dec.{lit≤}
-use borrow.Author.Rules.{rules}
 use Rattle.timeword.proofs.Masks.{joined}
 use Rattle.timeword.proofs.Correct.{code_word-number}
 use Rattle.timeword.proofs.Syndrome.{parities-lt}

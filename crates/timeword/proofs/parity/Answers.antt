@@ -4,7 +4,6 @@ use Prim.Native.Nat.{◌<◌}
 use mathlib.Core.Path.{◌∙◌}
 use native.Mathlib.Omega.{arith}
 use lib.Bits.{and_mask}
-use borrow.Author.Rules.{rules}
 use Rattle.timeword.proofs.Syndrome.{syndrome-lt, syndrome-time}
 use Rattle.timeword.proofs.parity.Goals as goal
 

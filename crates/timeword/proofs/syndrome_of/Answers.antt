@@ -1,6 +1,5 @@
 -- `timeword::syndrome_of` meets its contract: each mask keeps the bits of its check.
 -- Assumes nothing.
-use borrow.Author.Rules.{rules}
 use native.Mathlib.Omega.{arith}
 use Rattle.bits.specs.Bits.{number}
 use Rattle.timeword.specs.TimeWord.{syndrome}

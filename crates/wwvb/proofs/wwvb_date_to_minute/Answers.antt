@@ -1,7 +1,6 @@
 -- `wwvb::wwvb_date_to_minute` meets its contract: each case of the answer has the numbers of its reply.
 -- Assumes nothing.
 use mathlib.Core.Path.{sym, ap, ◌∙◌}
-use borrow.Author.Rules.{rules}
 use Rattle.calendar.specs.Answer.{minute_numbers}
 use Rattle.wwvb.specs.Replies.{reply_numbers}
 use Rattle.wwvb.proofs.wwvb_date_to_minute.Goals as goal

@@ -3,7 +3,6 @@
 use mathlib.Core.Path.{◌≡◌, sym, ap, subst, ◌∙◌}
 use lib.IntN.{ℤ}
 use mir.Facts.{to_z-of_z}
-use borrow.Author.Rules.{rules}
 use Rattle.localtime.specs.Local.{local_of, local_numbers}
 use Rattle.wwvb.specs.Replies.{reply_numbers}
 use Rattle.wwvb.proofs.wwvb_local_date.Goals as goal

@@ -1,7 +1,6 @@
 -- `wwvb::wwvb_minute_to_date` meets its contract: each case of the answer has the numbers of its reply.
 -- Assumes nothing.
 use mathlib.Core.Path.{sym, ap, ◌∙◌}
-use borrow.Author.Rules.{rules}
 use Rattle.calendar.specs.Answer.{date_numbers}
 use Rattle.wwvb.specs.Replies.{reply_numbers}
 use Rattle.wwvb.proofs.wwvb_minute_to_date.Goals as goal

@@ -2,7 +2,6 @@
 -- Assumes nothing.
 use Prim.Native.Nat.{ℕ}
 use mathlib.Core.Path.{ap, ◌∙◌}
-use borrow.Author.Rules.{rules}
 use Rattle.wwvb.specs.Replies.{one_reply}
 use Rattle.wwvb.proofs.wwvb_read_frame.Goals as goal
 

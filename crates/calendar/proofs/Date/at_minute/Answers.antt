@@ -2,7 +2,6 @@
 -- Assumes nothing.
 use Prim.Native.Nat.{ℕ, ◌/◌, ◌<◌}
 use native.Mathlib.Omega.{arith}
-use borrow.Author.Rules.{rules}
 use Rattle.gregorian.specs.Gregorian.{day_count}
 use Rattle.calendar.specs.Calendar.{date_from, date_at}
 use Rattle.gregorian.proofs.Months.{placed, year-index}

@@ -1,6 +1,5 @@
 -- `calendar::Date::from_minute` meets its contract. Assumes nothing.
 use native.Mathlib.Omega.{arith}
-use borrow.Author.Rules.{rules}
 use borrow.Author.Tests.{lt-leb, le-leb}
 use Rattle.questions.specs.Questions.{asked}
 use Rattle.calendar.specs.Calendar.{max_minute}

@@ -2,7 +2,6 @@
 -- Assumes nothing.
 use Prim.Native.Nat.{◌+◌}
 use native.Mathlib.Omega.{arith}
-use borrow.Author.Rules.{rules}
 use borrow.Author.Tests.{le-ltb, eq-eqb}
 use Rattle.calendar.specs.Calendar.{minute_count, month_index, last_of_month}
 use Rattle.calendar.proofs.MonthOrder.{same-day}

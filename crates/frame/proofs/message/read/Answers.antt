@@ -1,7 +1,6 @@
 -- `frame::message::read` meets its contract.
 -- Assumes nothing.
 use mathlib.Core.Path.{sym}
-use borrow.Author.Rules.{rules}
 use Rattle.format.proofs.Messages.{no-19}
 use Rattle.frame.proofs.message.read.Goals as goal
 

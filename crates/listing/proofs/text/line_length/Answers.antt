@@ -6,7 +6,6 @@ use native.Mathlib.Omega.{arith}
 use Rattle.decimal.specs.Decimal.{width}
 use Rattle.decimal.proofs.Laws.{width-le}
 use Rattle.listing.proofs.Texts.{length-line}
-use borrow.Author.Rules.{rules}
 use Rattle.listing.proofs.text.line_length.Goals as goal
 
 pub overflow_add-result : goal.overflow_add-result

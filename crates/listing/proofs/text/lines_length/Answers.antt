@@ -1,11 +1,10 @@
-use Prim.Native.Nat.{suc, ◌-◌, ◌≤◌}
+use Prim.Native.Nat.{suc}
 use mathlib.Core.Path.{◌≡◌, refl}
 use native.Mathlib.Numerals.{add-one}
 use native.Mathlib.Omega.{arith}
-use lib.ListN.{length}
 use Rattle.sequence.specs.Writing.{frames}
 use Rattle.listing.specs.Listing.{frame_lines}
-use Rattle.listing.proofs.Texts.{lines_of, length-snoc, lines-small}
+use Rattle.listing.proofs.Texts.{length-snoc, lines-small}
 use Rattle.listing.proofs.text.lines_length.Goals as goal
 
 pub loop-i-init : goal.loop-i-init

@@ -1,8 +1,7 @@
-use Prim.Native.Nat.{◌-◌, ◌≤◌}
-use mathlib.Core.Path.{◌≡◌, refl, ◌∙◌}
+use mathlib.Core.Path.{◌∙◌}
 use native.Mathlib.Omega.{arith}
-use lib.ListN.{length, length-set}
-use Rattle.listing.proofs.Putting.{PrintedTo, print-more, printed}
+use lib.ListN.{length-set}
+use Rattle.listing.proofs.Putting.{print-more, printed}
 use Rattle.listing.proofs.text.print_bits.Goals as goal
 
 pub loop-i-preserved : goal.loop-i-preserved

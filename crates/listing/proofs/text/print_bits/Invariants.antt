@@ -1,10 +1,9 @@
 -- `listing::text::print_bits` meets its contract.
 -- Assumes nothing.
 use Prim.Native.Nat.{◌-◌, ◌≤◌}
-use mathlib.Core.Path.{◌≡◌, refl, ◌∙◌}
-use native.Mathlib.Omega.{arith}
-use lib.ListN.{length, length-set}
-use Rattle.listing.proofs.Putting.{PrintedTo, print-more, printed}
+use mathlib.Core.Path.{◌≡◌}
+use lib.ListN.{length}
+use Rattle.listing.proofs.Putting.{PrintedTo}
 use Rattle.listing.proofs.text.print_bits.Given as goal
 
 abbrev pub invariant-loop-i : goal.invariant-loop-i

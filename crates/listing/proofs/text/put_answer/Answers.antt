@@ -3,7 +3,6 @@
 use mathlib.Core.Path.{sym, ◌∙◌}
 use Rattle.listing.proofs.Asking.{accepted}
 use Rattle.listing.proofs.Answers.{frames-answer, refused-answer}
-use borrow.Author.Rules.{rules}
 use Rattle.listing.proofs.text.put_answer.Goals as goal
 
 pub put_frames-requires : goal.put_frames-requires

@@ -12,7 +12,6 @@ use Rattle.sequence.proofs.Sums.{length-time}
 use Rattle.listing.specs.Listing.{glyph, bits_text}
 use Rattle.sequence.proofs.Putting.{Put, put_of, put-length}
 use Rattle.listing.proofs.Texts.{bits_put, length-bits}
-use borrow.Author.Rules.{rules}
 use Rattle.listing.proofs.text.put_frame.Goals as goal
 
 pub slice_bounds-print_bits-end-2 : goal.slice_bounds-print_bits-end-2

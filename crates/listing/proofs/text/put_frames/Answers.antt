@@ -10,7 +10,6 @@ use Rattle.listing.specs.Listing.{heading, frames_text}
 use Rattle.sequence.proofs.Putting.{put_of, put-more, rest-length}
 use Rattle.listing.proofs.Putting.{put-no, put-done}
 use Rattle.listing.proofs.Texts.{lines_of, lines-small, length-frames}
-use borrow.Author.Rules.{rules}
 use Rattle.listing.proofs.text.put_frames.Goals as goal
 
 pub overflow_add-needed : goal.overflow_add-needed

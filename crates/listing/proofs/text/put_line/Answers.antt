@@ -11,7 +11,6 @@ use Rattle.sequence.proofs.Sums.{length-time}
 use Rattle.listing.specs.Listing.{number_text, bits_text}
 use Rattle.sequence.proofs.Putting.{Put, put_of, put-length, put-more, rest-length}
 use Rattle.listing.proofs.Texts.{line_of, length-line, line-is, length-number, length-bits}
-use borrow.Author.Rules.{rules}
 use Rattle.listing.proofs.text.put_line.Goals as goal
 
 pub put_number-a-requires : goal.put_number-a-requires

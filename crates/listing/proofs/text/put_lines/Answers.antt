@@ -1,4 +1,4 @@
-use Prim.Native.Nat.{ℕ, suc, ◌+◌, ◌-◌, ◌≤◌}
+use Prim.Native.Nat.{ℕ, suc, ◌+◌, ◌≤◌}
 use mathlib.Core.Path.{◌≡◌, refl}
 use native.Mathlib.Numerals.{add-one}
 use native.Mathlib.Omega.{arith}
@@ -6,8 +6,8 @@ use lib.ListN.{length}
 use Rattle.plan.specs.declared.Plan.{Plan}
 use Rattle.sequence.specs.Writing.{frames}
 use Rattle.listing.specs.Listing.{frame_lines}
-use Rattle.sequence.proofs.Putting.{Put, put_of, put-length, put-more, rest-length}
-use Rattle.listing.proofs.Texts.{line_of, lines_of, lines_snoc, length-snoc, lines-mono}
+use Rattle.sequence.proofs.Putting.{put_of, put-length, put-more, rest-length}
+use Rattle.listing.proofs.Texts.{line_of, lines_snoc, length-snoc, lines-mono}
 use Rattle.listing.proofs.text.put_lines.Goals as goal
 
 pub loop-i-init : goal.loop-i-init

@@ -1,15 +1,8 @@
 -- `listing::text::put_lines` meets its contract.
 -- Assumes nothing.
-use Prim.Native.Nat.{ℕ, suc, ◌+◌, ◌-◌, ◌≤◌}
-use mathlib.Core.Path.{◌≡◌, refl}
-use native.Mathlib.Numerals.{add-one}
-use native.Mathlib.Omega.{arith}
-use lib.ListN.{length}
-use Rattle.plan.specs.declared.Plan.{Plan}
-use Rattle.sequence.specs.Writing.{frames}
-use Rattle.listing.specs.Listing.{frame_lines}
-use Rattle.sequence.proofs.Putting.{Put, put_of, put-length, put-more, rest-length}
-use Rattle.listing.proofs.Texts.{line_of, lines_of, lines_snoc, length-snoc, lines-mono}
+use Prim.Native.Nat.{◌-◌, ◌≤◌}
+use Rattle.sequence.proofs.Putting.{Put}
+use Rattle.listing.proofs.Texts.{lines_of}
 use Rattle.listing.proofs.text.put_lines.Given as goal
 
 abbrev pub invariant-loop-i : goal.invariant-loop-i

@@ -4,8 +4,6 @@ use Rattle.listing.proofs.Texts.{number_put}
 use Rattle.listing.proofs.text.put_number.Goals as goal
 -- `listing::text::put_number` meets its contract.
 -- Assumes nothing.
-use borrow.Author.Rules.{rules}
-use Rattle.listing.proofs.text.put_number.Statement.{statement}
 use Rattle.listing.proofs.text.put_number.Tie as tie
 
 pub returns : goal.returns

@@ -9,7 +9,6 @@ use Rattle.listing.specs.Listing.{number_text, refused_word, refused_text}
 use Rattle.sequence.proofs.Putting.{put_of, put-more, rest-length}
 use Rattle.listing.proofs.Putting.{put-no, put-done}
 use Rattle.listing.proofs.Texts.{length-number, length-refused}
-use borrow.Author.Rules.{rules}
 use Rattle.listing.proofs.text.put_refused.Goals as goal
 
 pub overflow_add-needed : goal.overflow_add-needed

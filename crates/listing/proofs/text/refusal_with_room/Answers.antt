@@ -5,7 +5,6 @@ use mathlib.Core.Path.{◌≡◌, refl, ap, ◌∙◌}
 use Rattle.messages.specs.Message.{plain}
 use Rattle.sequence.specs.Writing.{write_refusal, WriteNumbers, write_result}
 use Rattle.listing.proofs.Asking.{no-refusal, a-refusal}
-use borrow.Author.Rules.{rules}
 use Rattle.listing.proofs.text.refusal_with_room.Goals as goal
 
 pub returns-in-Written : goal.returns-in-Written

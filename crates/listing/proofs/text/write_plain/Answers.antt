@@ -1,7 +1,6 @@
 -- `listing::text::write_plain` meets its contract: no bytes hold no messages.
 -- Assumes nothing.
 use Rattle.messages.specs.Bytes.{message_count, messages_from, messages_in}
-use borrow.Author.Rules.{rules}
 use Rattle.listing.proofs.text.write_plain.Goals as goal
 
 pub returns : goal.returns

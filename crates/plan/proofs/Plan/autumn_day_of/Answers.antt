@@ -1,6 +1,5 @@
 -- `plan::Plan::autumn_day_of` meets its contract.
 -- Assumes nothing.
-use borrow.Author.Rules.{rules}
 use Rattle.plan.specs.Plan.{autumn_day_of}
 use Rattle.plan.proofs.Plan.autumn_day_of.Goals as goal
 

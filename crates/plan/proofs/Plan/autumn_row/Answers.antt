@@ -1,6 +1,5 @@
 -- `plan::Plan::autumn_row` meets its contract.
 -- Assumes nothing.
-use borrow.Author.Rules.{rules}
 use Rattle.plan.specs.Plan.{autumn_row}
 use Rattle.plan.proofs.Plan.autumn_row.Goals as goal
 

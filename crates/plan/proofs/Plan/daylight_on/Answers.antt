@@ -3,7 +3,6 @@
 use Prim.Native.Nat.{ℕ}
 use mathlib.Core.Path.{◌≡◌, sym, ap₂, ◌∙◌}
 use native.Mathlib.Omega.{arith}
-use borrow.Author.Rules.{rules}
 use Rattle.codewords.specs.CodeWords.{daylight_number}
 use Rattle.plan.specs.Plan.{april_sunday, autumn_day, spring_day_of, autumn_day_of, changing}
 use Rattle.plan.specs.declared.Plan.{Plan}

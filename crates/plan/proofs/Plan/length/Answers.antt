@@ -1,6 +1,5 @@
 -- `plan::Plan::length` meets its contract.
 -- Assumes nothing.
-use borrow.Author.Rules.{rules}
 use mathlib.Core.Path.{◌≡◌}
 use Rattle.plan.specs.Plan.{leap_at, length_at}
 use Rattle.plan.proofs.Laws.{leap-same}

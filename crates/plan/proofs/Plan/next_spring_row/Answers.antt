@@ -1,6 +1,5 @@
 -- `plan::Plan::next_spring_row` meets its contract.
 -- Assumes nothing.
-use borrow.Author.Rules.{rules}
 use Rattle.plan.proofs.Plan.next_spring_row.Goals as goal
 
 pub returns : goal.returns

@@ -1,6 +1,5 @@
 -- `plan::Plan::row_for` meets its contract.
 -- Assumes nothing.
-use borrow.Author.Rules.{rules}
 use Prim.Native.Nat.{◌/◌}
 use mathlib.Core.Logic.{inr}
 use mathlib.Core.Path.{sym, ◌∙◌}

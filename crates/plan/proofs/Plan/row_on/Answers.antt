@@ -1,7 +1,6 @@
 -- `plan::Plan::row_on` meets its contract: dst_on[1] picks.
 -- Assumes nothing.
 use mathlib.Core.Path.{sym, ◌∙◌}
-use borrow.Author.Rules.{rules}
 use Rattle.plan.specs.Plan.{row_on}
 use Rattle.plan.proofs.RowSent.{next-on, next-off}
 use Rattle.plan.proofs.Plan.row_on.Goals as goal

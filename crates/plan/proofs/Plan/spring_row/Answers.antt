@@ -1,6 +1,5 @@
 -- `plan::Plan::spring_row` meets its contract.
 -- Assumes nothing.
-use borrow.Author.Rules.{rules}
 use native.Mathlib.Omega.{arith}
 use mathlib.Core.Path.{sym, ◌∙◌}
 use Rattle.plan.specs.Plan.{spring_row}

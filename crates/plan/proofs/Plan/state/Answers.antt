@@ -1,6 +1,5 @@
 -- `plan::Plan::state` meets its contract.
 -- Assumes nothing.
-use borrow.Author.Rules.{rules}
 use Rattle.plan.specs.Plan.{state_at}
 use Rattle.plan.proofs.Plan.state.Goals as goal
 

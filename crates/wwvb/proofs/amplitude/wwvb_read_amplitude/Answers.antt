@@ -4,7 +4,6 @@ use mathlib.Core.Path.{sym, ap, ◌∙◌}
 use Rattle.amplitude_rules.proofs.Exact.{read-exactly}
 use Rattle.amplitude_reader.specs.Answer.{answer_of}
 use Rattle.wwvb.specs.Amplitude.{amplitude_reply}
-use borrow.Author.Rules.{rules}
 use Rattle.wwvb.proofs.amplitude.wwvb_read_amplitude.Goals as goal
 
 pub accepted-requires : goal.accepted-requires

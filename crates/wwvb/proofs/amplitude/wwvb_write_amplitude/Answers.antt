@@ -17,7 +17,6 @@ use Rattle.amplitude_writer.specs.declared.WriteRefusal.{WriteRefusal}
 use Rattle.amplitude_writer.specs.declared.WriteRefusal.TheVariants.{IllegalPlan, Minute, Ut1, Space}
 use Rattle.amplitude_writer.specs.declared.WriteAnswer.TheVariants.{Refused}
 use Rattle.wwvb.specs.Replies.{plan_of, reply_numbers}
-use borrow.Author.Rules.{rules}
 use Rattle.wwvb.proofs.amplitude.wwvb_write_amplitude.Goals as goal
 
 refused-reply : (x : WriteRefusal) → write_refusal_number x ∷ 0 ∷ [] ≡ reply_numbers 1 (write_numbers (Refused x))

@@ -3,7 +3,6 @@
 use mathlib.Core.Path.{sym, ap, ◌∙◌}
 use Rattle.irig.specs.Answer.{read_numbers}
 use Rattle.wwvb.specs.Replies.{reply_numbers}
-use borrow.Author.Rules.{rules}
 use Rattle.wwvb.proofs.irig_b.wwvb_read_irig.Goals as goal
 
 pub returns-in-Second : goal.returns-in-Second

@@ -17,7 +17,6 @@ use Rattle.irig.specs.declared.WriteRefusal.{WriteRefusal}
 use Rattle.irig.specs.declared.WriteRefusal.TheVariants.{IllegalPlan, Minute, BadSecond, Space}
 use Rattle.irig.specs.declared.WriteAnswer.TheVariants.{Refused}
 use Rattle.wwvb.specs.Replies.{plan_of, reply_numbers}
-use borrow.Author.Rules.{rules}
 use Rattle.wwvb.proofs.irig_b.wwvb_write_irig.Goals as goal
 
 refused-reply : (x : WriteRefusal) → write_refusal_number x ∷ 0 ∷ [] ≡ reply_numbers 1 (write_numbers (Refused x))

@@ -2,7 +2,6 @@
 -- Assumes nothing.
 use Prim.Native.Nat.{ℕ}
 use mathlib.Core.Path.{sym, ap, ◌∙◌}
-use borrow.Author.Rules.{rules}
 use Rattle.page_rules.specs.Printing.{unprinted}
 use Rattle.page.specs.Answer.{print_outcome}
 use Rattle.page.specs.declared.PrintAnswer.{PrintAnswer}
