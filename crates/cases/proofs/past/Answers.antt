@@ -6,4 +6,4 @@ use Rattle.cases.proofs.past.Goals as goal
 
 pub returns : goal.returns
 unfolding outside
-returns c = rw c.wrapping_add_u32.ensures
+returns c = rw c.wrapping_add_u32.ensures.value

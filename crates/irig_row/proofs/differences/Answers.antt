@@ -1,5 +1,4 @@
 use Prim.Native.Nat.{◌+◌, ◌-◌, ◌≤◌}
-use mathlib.Core.Logic.{⊎_elim}
 use mathlib.Core.Path.{◌≡◌}
 use native.Mathlib.Omega.{arith}
 use lib.ListN.{drop}
@@ -7,14 +6,17 @@ use Rattle.bits.specs.Bits.{distance}
 use Rattle.irig_rules.specs.Irig.{element_count}
 use Rattle.irig_row.proofs.Differing.{same_place, other_place, no_place}
 use Rattle.irig_row.proofs.differences.Goals as goal
+use Rattle.irig_row.proofs.differences.Goals.{then-a-i, else-a-i}
 
 pub loop-i-preserved : goal.loop-i-preserved
 loop-i-preserved c =
     let l = c.loop-i in
     let a = c.args.a.now in
     let b = c.args.b.now in
-    ⊎_elim (λ x. (omega arith, omega (arith, x.1), omega (arith, x.1, other_place a b l.i (omega arith) (omega arith) x.0.true)))
-    (λ x. (omega arith, omega (arith, x.1), omega (arith, x.1, same_place a b l.i (omega arith) (omega arith) x.0.false))) c.if-a-i.branch
+    elim c.if-a-i.branch [
+      | then-a-i w ↦ (omega arith, omega (arith, w.n-is), omega (arith, w.n-is, other_place a b l.i (omega arith) (omega arith) w.if-a-i.true))
+      | else-a-i w ↦ (omega arith, omega (arith, w.n-is), omega (arith, w.n-is, same_place a b l.i (omega arith) (omega arith) w.if-a-i.false))
+    ]
 
 pub returns : goal.returns
 returns c =

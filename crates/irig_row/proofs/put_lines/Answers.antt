@@ -16,12 +16,12 @@ put_line-requires c = omega (arith, c.loop-k.invariant.1)
 
 pub loop-k-preserved : goal.loop-k-preserved
 loop-k-preserved c =
-    let n : length c.args.t1 ≡ 10 = omega arith in
-    (omega arith, omega arith, next-line c.args.out.now c.args.t1 c.loop-k.out _ c.loop-k.k (omega arith) c.loop-k.invariant.2 c.put_line.ensures)
+    let n : length c.args.lines ≡ 10 = omega arith in
+    (omega arith, omega arith, next-line c.args.out.now c.args.lines c.loop-k.out _ c.loop-k.k (omega arith) c.loop-k.invariant.2 c.put_line.ensures)
 
 pub returns : goal.returns
 returns c =
     let l = c.loop-k in
-    let n : length c.args.t1 ≡ 10 = omega arith in
+    let n : length c.args.lines ≡ 10 = omega arith in
     let e : l.k ≡ 10 = omega arith in
-    rw (e, take_all 10 c.args.t1 (omega arith)) at l.invariant.2
+    rw (e, take_all 10 c.args.lines (omega arith)) at l.invariant.2
