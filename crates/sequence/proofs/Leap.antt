@@ -120,6 +120,10 @@ module _ (f : List ℕ) where
 abbrev Carried : List Entry → Type 0
 Carried es = Earlier (counted (state_after es)) es × (leap_read (state_after es) ≡ last_leap (month_index (counted (state_after es))) unknown es)
 
+counted-after : (due : Due) (e : Entry) → counted (after due e) ≡ e.minute + 1
+unfolding after
+counted-after due e = refl
+
 carried : (space : ℕ) (f : List ℕ) {es : List Entry} → Read space f es → Carried es
 carried space f none = unfold due_after last_leap in (tt, refl)
 carried space f (more es r l a) = step (carried space f r)
@@ -134,7 +138,7 @@ carried space f (more es r l a) = step (carried space f r)
     yes = after-5 space f es a
 
     counted_next : counted (state_after (es ++ (e ∷ []))) ≡ e.minute + 1
-    counted_next = ap counted (due-snoc start es e) ∙ (unfold after in refl)
+    counted_next = ap counted (due-snoc start es e) ∙ counted-after due e
 
     step : Carried es → Carried (es ++ (e ∷ []))
     step c =

@@ -10,7 +10,7 @@ use lib.ListN.{length}
 use borrow.Author.Tests.{eq-eqb, ne_eqb, le-leb, lt-leb}
 use Rattle.format.specs.Questions.{enough}
 use Rattle.frame.proofs.ends_right.Goals as goal
-use Rattle.frame.proofs.ends_right.Goals.{Joined-alone}
+use Rattle.frame.proofs.ends_right.Goals.{then-alone+else-seconds-frame, else-alone+else-frame-seconds, Joined-alone}
 
 exactly : (b : Bool) (n l : ℕ) → b ≡ true → n ≡ l → enough b n l ≡ true
 unfolding enough
@@ -29,10 +29,13 @@ module _ (c : Joined-alone) where
   l = length c.args.frame.now
 
   enough-true : enough c.args.alone n l ≡ true
-  enough-true = ⊎_elim (λ w. exactly _ n l w.0.true (omega (arith, w.1.false))) (λ w. at_least _ n l w.0.false w.1.false) c.if-alone.branch
+  enough-true = elim c.if-alone.branch [
+    | then-alone+else-seconds-frame w ↦ exactly _ n l w.if-alone.true (omega (arith, w.if-seconds-frame.false))
+    | else-alone+else-frame-seconds w ↦ at_least _ n l w.if-alone.false w.if-frame-seconds.false
+  ]
 
   long : n ≤ l
-  long = ⊎_elim (λ w. omega (arith, w.1.false)) (λ w. w.1.false) c.if-alone.branch
+  long = elim c.if-alone.branch [ then-alone+else-seconds-frame w ↦ omega (arith, w.if-seconds-frame.false) | else-alone+else-frame-seconds w ↦ w.if-frame-seconds.false ]
 
 pub returns-then-seconds-frame : goal.returns-then-seconds-frame
 unfolding enough

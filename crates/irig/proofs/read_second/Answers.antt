@@ -11,17 +11,6 @@ use Rattle.irig_rules.specs.declared.Clock.{Clock}
 use Rattle.irig.proofs.Reading.{other_length, not-real, not-row, is_row}
 use borrow.Author.Rules.{rules}
 use Rattle.irig.proofs.read_second.Goals as goal
-use Rattle.irig.proofs.read_second.Goals.{Else-not-is_real}
-
--- the time that the elements show, which is real
-abbrev bytes : Else-not-is_real → List ℕ
-bytes c = c.args.elements.now
-
-abbrev clock : Else-not-is_real → Clock
-clock c = c.clock_in-clock.result
-
-real : (c : Else-not-is_real) → real_clock (clock c) ≡ true
-real c = sym c.is_real.ensures ∙ c.if-not-is_real.false
 
 pub returns-then-elements-ne-ELEMENTS : goal.returns-then-elements-ne-ELEMENTS
 returns-then-elements-ne-ELEMENTS c =
@@ -34,17 +23,28 @@ returns-then-not-is_real c =
 
 pub is_row-requires : goal.is_row-requires
 is_row-requires c =
-    (real (goal.at.is_row-requires c).Else-not-is_real, c.if-elements-ne-ELEMENTS.false)
+    let clock : Clock = c.clock_in-clock.result in
+    let real : real_clock clock ≡ true = sym c.is_real.ensures ∙ c.if-not-is_real.false in
+    (real, c.if-elements-ne-ELEMENTS.false)
 
 pub second_of_day-requires : goal.second_of_day-requires
-second_of_day-requires c = real (goal.at.second_of_day-requires c).Else-not-is_real
+second_of_day-requires c =
+    let clock : Clock = c.clock_in-clock.result in
+    let real : real_clock clock ≡ true = sym c.is_real.ensures ∙ c.if-not-is_real.false in
+    real
 
 pub returns-then-is_row : goal.returns-then-is_row
 returns-then-is_row c =
-    let k = clock c in
+    let bytes : List ℕ = c.args.elements.now in
+    let clock : Clock = c.clock_in-clock.result in
+    let real : real_clock clock ≡ true = sym c.is_real.ensures ∙ c.if-not-is_real.false in
+    let k = clock in
     ap (λ (q : ℕ). found (k.day ∷ q ∷ [])) c.second_of_day.ensures
-    ∙ is_row (bytes c) k c.clock_in-clock.ensures (real (goal.at.returns-then-is_row c).Else-not-is_real) (sym c.if-is_row.true ∙ c.is_row.ensures)
+    ∙ is_row bytes k c.clock_in-clock.ensures real (sym c.if-is_row.true ∙ c.is_row.ensures)
 
 pub returns-else-is_row : goal.returns-else-is_row
 returns-else-is_row c =
-    not-row (bytes c) (clock c) c.clock_in-clock.ensures (real (goal.at.returns-else-is_row c).Else-not-is_real) (sym c.if-is_row.false ∙ c.is_row.ensures)
+    let bytes : List ℕ = c.args.elements.now in
+    let clock : Clock = c.clock_in-clock.result in
+    let real : real_clock clock ≡ true = sym c.is_real.ensures ∙ c.if-not-is_real.false in
+    not-row bytes clock c.clock_in-clock.ensures real (sym c.if-is_row.false ∙ c.is_row.ensures)
