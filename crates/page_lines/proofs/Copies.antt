@@ -14,5 +14,5 @@ put_at at ys out = take at out ++ (ys ++ drop (length out - at) (drop at out))
 
 -- a copy of a text
 pub copied : {text before after : List ℕ} (n : ℕ) → length text ≡ n → n ≤ length before
-    → after ≡ take (length text) text ++ drop (length text) before → Put text before after n
-copied {text} {before} {after} n l h e = record { size = l; room = h; is = rw (take_all (length text) text (omega arith), l) at e }
+    → after ≡ text ++ drop (length text) before → Put text before after n
+copied n l h e = record { size = l; room = h; is = rw l at e }

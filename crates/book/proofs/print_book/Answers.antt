@@ -10,18 +10,6 @@ use Rattle.book.proofs.Gathering.{bits-few}
 use Rattle.book.proofs.Inputs.{too_long, bits-front, all-printed}
 use borrow.Author.Rules.{rules}
 use Rattle.book.proofs.print_book.Goals as goal
-use Rattle.book.proofs.print_book.Goals.{After-gather_bits-count}
-
--- the input
-abbrev input : After-gather_bits-count → List ℕ
-input c = c.args.input.now
-
--- the bits at the front of the gathered input, and how many they are
-front : (c : After-gather_bits-count) → take c.gather_bits-count.result c.gather_bits-count.new.text ≡ bits_in (input c)
-front c = bits-front (input c) c.gather_bits-count.new.text c.gather_bits-count.result c.gather_bits-count.ensures.0 c.gather_bits-count.ensures.1
-
-many : (c : After-gather_bits-count) → c.gather_bits-count.result ≡ length (take c.gather_bits-count.result c.gather_bits-count.new.text)
-many c = rw (front c) c.gather_bits-count.ensures.0
 
 pub returns-then-input-gt-BOOK_LIMIT : goal.returns-then-input-gt-BOOK_LIMIT
 returns-then-input-gt-BOOK_LIMIT c =
@@ -31,15 +19,23 @@ returns-then-input-gt-BOOK_LIMIT c =
 
 pub slice_bounds-print_recording-end : goal.slice_bounds-print_recording-end
 slice_bounds-print_recording-end c =
-    omega (arith, many (goal.at.slice_bounds-print_recording-end c).After-gather_bits-count, length-take c.gather_bits-count.result c.gather_bits-count.new.text)
+    let input : List ℕ = c.args.input.now in
+    let front : take c.gather_bits-count.result c.gather_bits-count.new.text ≡ bits_in input = bits-front input c.gather_bits-count.new.text c.gather_bits-count.result c.gather_bits-count.ensures.0 c.gather_bits-count.ensures.1 in
+    let many : c.gather_bits-count.result ≡ length (take c.gather_bits-count.result c.gather_bits-count.new.text) = rw front c.gather_bits-count.ensures.0 in
+    omega (arith, many, length-take c.gather_bits-count.result c.gather_bits-count.new.text)
 
 pub slice_bounds-print_recording-end-2 : goal.slice_bounds-print_recording-end-2
 slice_bounds-print_recording-end-2 c =
-    many (goal.at.slice_bounds-print_recording-end-2 c).After-gather_bits-count
+    let input : List ℕ = c.args.input.now in
+    let front : take c.gather_bits-count.result c.gather_bits-count.new.text ≡ bits_in input = bits-front input c.gather_bits-count.new.text c.gather_bits-count.result c.gather_bits-count.ensures.0 c.gather_bits-count.ensures.1 in
+    let many : c.gather_bits-count.result ≡ length (take c.gather_bits-count.result c.gather_bits-count.new.text) = rw front c.gather_bits-count.ensures.0 in
+    many
 
 pub print_recording-requires : goal.print_recording-requires
 print_recording-requires c =
-    rw (front (goal.at.print_recording-requires c).After-gather_bits-count) (omega (arith, bits-few (input c)))
+    let input : List ℕ = c.args.input.now in
+    let front : take c.gather_bits-count.result c.gather_bits-count.new.text ≡ bits_in input = bits-front input c.gather_bits-count.new.text c.gather_bits-count.result c.gather_bits-count.ensures.0 c.gather_bits-count.ensures.1 in
+    rw front (omega (arith, bits-few input))
 
 pub returns : goal.returns
 returns c =

@@ -7,20 +7,17 @@ use Rattle.listing.specs.Listing.{refused_text}
 use Rattle.book.proofs.Space.{refused-short, text-listed, never-unlisted}
 use borrow.Author.Rules.{rules}
 use Rattle.book.proofs.put_refusal.Goals as goal
-use Rattle.book.proofs.put_refusal.Goals.{After-put_refused-arg-1}
-
--- the array has space for any refusal
-space : (c : After-put_refused-arg-1) → length (refused_text c.args.number) ≤ length c.args.out.now
-space c = omega (arith, c.put_refused-arg-1.given.0.1, refused-short c.args.number (omega arith))
 
 pub returns-in-Listed : goal.returns-in-Listed
 returns-in-Listed c =
+    let space : length (refused_text c.args.number) ≤ length c.args.out.now = omega (arith, c.put_refused-arg-1.given.0.1, refused-short c.args.number (omega arith)) in
     let a = c.args in
     let x = c.answer-1.given in
-    text-listed (refused_text a.number) a.out.now c.put_refused-answer.new.out (space (goal.at.returns-in-Listed c).After-put_refused-arg-1) x.0.0 (rw x.1 at c.put_refused-answer.ensures)
+    text-listed (refused_text a.number) a.out.now c.put_refused-answer.new.out space x.0.0 (rw x.1 at c.put_refused-answer.ensures)
 
 pub returns-in-NoSpace : goal.returns-in-NoSpace
 returns-in-NoSpace c =
+    let space : length (refused_text c.args.number) ≤ length c.args.out.now = omega (arith, c.put_refused-arg-1.given.0.1, refused-short c.args.number (omega arith)) in
     let a = c.args in
     let e = rw c.in-NoSpace.is at c.put_refused-answer.ensures in
-    absurd (never-unlisted (refused_text a.number) a.out.now c.put_refused-answer.new.out (space (goal.at.returns-in-NoSpace c).After-put_refused-arg-1) 0 e)
+    absurd (never-unlisted (refused_text a.number) a.out.now c.put_refused-answer.new.out space 0 e)

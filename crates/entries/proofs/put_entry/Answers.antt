@@ -6,4 +6,4 @@ use Rattle.entries.proofs.put_entry.Goals as goal
 
 pub returns : goal.returns
 unfolding entry_bytes
-returns c = rw (c.daylight_number-daylight.ensures, c.leap_number-leap.ensures) at c.copy.ensures.1
+returns c = rw (c.daylight_number-daylight.ensures, c.leap_number-leap.ensures) at c.copy.ensures

@@ -7,4 +7,4 @@ use Rattle.entries.proofs.put_message.Goals as goal
 
 pub returns : goal.returns
 unfolding entry_bytes message_entry
-returns c = c.copy.ensures.1
+returns c = c.copy.ensures

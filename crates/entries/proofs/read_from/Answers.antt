@@ -22,148 +22,6 @@ use Rattle.entries.specs.Answer.{progress, step_numbers}
 use Rattle.entries.proofs.Progress.{halted, Advanced, advanced, room_of, refused-step}
 use Rattle.entries.proofs.Turn.{same_back, put-length, turn, turn-due}
 use Rattle.entries.proofs.read_from.Goals as goal
-use Rattle.entries.proofs.read_from.Goals.{After-read_entry-step, At-loop-used, In-Advance, In-Halt, In-loop-used}
-
--- at the loop's test
-module _ (a : At-loop-used) where
-  abbrev bits : List ℕ
-  bits = a.before.before.before.args.bits.now
-
-  abbrev buffer : List ℕ
-  buffer = a.before.before.before.args.entries.now
-
-  abbrev first : Due
-  first = a.before.before.before.args.due
-
-  abbrev rest : List ℕ
-  rest = drop a.loop.used bits
-
-  abbrev slots : ℕ
-  slots = length buffer / entry_size - a.loop.count
-
-  abbrev from : ℕ
-  from = a.loop.count * entry_size
-
-  -- the entry bytes that are lent, and the step's answer
-  abbrev part : List ℕ
-  part = take (length a.loop.entries - from) (drop from a.loop.entries)
-
-  abbrev answer : Answer
-  answer = read_entry a.loop.next false (length part) rest
-
-  part_length : length part ≡ length buffer - from
-  part_length = rw (tail a.loop.entries from) (omega (arith, length-drop from a.loop.entries, a.loop.invariant.2))
-
-  free-slots : length part / entry_size ≡ slots
-  free-slots = omega (arith, part_length, a.loop.invariant.1)
-
-  -- where what is left finds nothing more, the outcome is what is there
-  stopped-at : (n : ℕ) (later : List ℕ) → later ≡ a.loop.entries → read_frames slots a.loop.next rest ≡ stop a.loop.next n
-      → (◌≡◌ {A = Outcome} (record { count = a.loop.count; used = a.loop.used; refusal = n; buffer = later }) (read_from first buffer bits))
-      × (a.loop.next ≡ due_from first buffer bits)
-  unfolding stop
-  stopped-at n later same e = (
-    rw same
-        (sym (resume-stop a.loop.count a.loop.used a.loop.entries a.loop.next n)
-        ∙ ap (resume a.loop.count a.loop.used a.loop.entries) (sym e)
-        ∙ a.loop.invariant.3),
-    rw e at a.loop.invariant.4,
-  )
-
-some : (c : In-loop-used) → 0 < length (rest c.before)
-some c = omega (arith, length-drop c.loop-used.used (bits c.before))
-
--- after the step
-module _ (r : After-read_entry-step) where
-  abbrev a : At-loop-used
-  a = r.before.before.before.before
-
-  progress-is : step_numbers r.read-entry.result ≡ progress a.loop.next (answer a)
-  progress-is =
-      r.read-entry.ensures.0
-      ∙ ap (λ (f : List ℕ). progress a.loop.next (read_entry a.loop.next false (length (part a)) f)) (tail (bits a) a.loop.used)
-
-  -- the entry bytes when they come back
-  abbrev later : List ℕ
-  later = r.read-entry.last.1.1.1.0
-
-  later-is : later ≡ (one_outcome (part a) (answer a)).buffer
-  later-is =
-      r.read-entry.ensures.1
-      ∙ ap (λ (f : List ℕ). (one_outcome (part a) (read_entry a.loop.next false (length (part a)) f)).buffer) (tail (bits a) a.loop.used)
-
--- where the step was refused
-module _ (k : In-Halt) where
-  abbrev rh : After-read_entry-step
-  rh = k.before.before.before.before.before
-
-  abbrev question : ℕ
-  question = refusal_number k.before.step.given.0.0
-
-  refused-is : answer (a rh) ≡ refused question
-  refused-is = halted (a rh).loop.next (answer (a rh)) question (sym (ap step_numbers k.before.step.given.1) ∙ progress-is rh)
-
-  kept : take (from (a rh)) (a rh).loop.entries
-      ++ (later rh ++ drop (length (a rh).loop.entries - from (a rh)) (drop (from (a rh)) (a rh).loop.entries))
-      ≡ (a rh).loop.entries
-  unfolding one_outcome
-  kept = same_back (a rh).loop.entries (later rh) (from (a rh)) (rw refused-is at (later-is rh))
-
--- where the frame is accepted, with the entry e
-module _ (r : After-read_entry-step) (e : Entry) (is : answer (a r) ≡ entry e) where
-  free : entry_size ≤ length (part (a r))
-  free = room_of (length (part (a r))) (a r).loop.next (rest (a r)) e is
-
-  room : from (a r) + entry_size ≤ length (a r).loop.entries
-  room = omega (arith, free, part_length (a r), (a r).loop.invariant.2)
-
-  entry-is : read_next (a r).loop.next false (rest (a r)) ≡ entry e
-  entry-is = sym (yes-5 (a r).loop.next false (length (part (a r))) (rest (a r)) free) ∙ is
-
-  fine : Accepted (rest (a r)) e
-  fine = accepted (a r).loop.next false (rest (a r)) e entry-is
-
-  left : (a r).loop.used + e.seconds ≤ length (bits (a r))
-  left = omega (arith, fine.enough-left, length-drop (a r).loop.used (bits (a r)), (a r).loop.invariant.0)
-
-  abbrev fewer : ℕ
-  fewer = length (buffer (a r)) / entry_size - ((a r).loop.count + 1)
-
-  one-slot : slots (a r) ≡ suc fewer
-  one-slot = omega (arith, room, (a r).loop.invariant.2)
-
-  put_is : (ys : List ℕ) → ys ≡ (one_outcome (part (a r)) (answer (a r))).buffer → ys ≡ entry_bytes e ++ drop entry_size (part (a r))
-  unfolding one_outcome
-  put_is ys h = rw is at h
-
-  -- the buffer when the part comes back as ys, and what is left to read after n bits in the state d
-  again : (n : ℕ) → n ≡ e.seconds → (d : Due) → d ≡ after (a r).loop.next e → (ys : List ℕ) → ys ≡ (one_outcome (part (a r)) (answer (a r))).buffer
-      → invariant-loop (bits (a r)) (buffer (a r)) 0 0 (first (a r))
-      (take (from (a r)) (a r).loop.entries ++ (ys ++ drop (length (a r).loop.entries - from (a r)) (drop (from (a r)) (a r).loop.entries)))
-      ((a r).loop.used + n) ((a r).loop.count + 1) d
-  again n en d ed ys h = (
-    rw en left,
-    omega (arith, room, (a r).loop.invariant.2),
-    put-length (a r).loop.entries ys (from (a r)) e room (put_is ys h) ∙ (a r).loop.invariant.2,
-    turn fewer (a r).loop.count (a r).loop.used n (a r).loop.next d (bits (a r)) (a r).loop.entries ys e (read_from (first (a r)) (buffer (a r)) (bits (a r)))
-        en ed (some r.before.before.before) entry-is room (put_is ys h)
-        (ap (λ (s : ℕ). resume (a r).loop.count (a r).loop.used (a r).loop.entries (read_frames s (a r).loop.next (rest (a r)))) (sym one-slot) ∙ (a r).loop.invariant.3),
-    turn-due fewer (a r).loop.used n (a r).loop.next d (due_from (first (a r)) (buffer (a r)) (bits (a r))) (bits (a r)) e en ed
-        (some r.before.before.before) entry-is (rw one-slot at (a r).loop.invariant.4),
-  )
-
--- where the step took a frame
-module _ (k : In-Advance) where
-  abbrev rk : After-read_entry-step
-  rk = k.before.before.before.before.before
-
-  abbrev state : Due
-  state = Minute k.before.step2.given.0.1.0 k.before.step2.given.0.1.1.0
-
-  went : Advanced (a rk).loop.next (answer (a rk)) k.before.step2.given.0.0 state
-  went =
-      advanced (a rk).loop.next (answer (a rk)) k.before.step2.given.0.0 state
-      (sym (ap step_numbers k.before.step2.given.1) ∙ progress-is rk)
 
 pub loop-used-init : goal.loop-used-init
 unfolding read_from due_from
@@ -178,37 +36,154 @@ loop-used-init c =
     )
 
 pub shape_of-entries-in-Halt : goal.shape_of-entries-in-Halt
+unfolding one_outcome
 shape_of-entries-in-Halt c =
-    let d = (goal.at.shape_of-entries-in-Halt c).In-Halt in
-    ap length (kept d) ∙ (a (rh d)).loop.invariant.2
+    let bits : List ℕ = c.args.bits.now in
+    let rest : List ℕ = drop c.loop-used.used bits in
+    let from : ℕ = c.loop-used.count * entry_size in
+    let part : List ℕ = take (length c.loop-used.entries - from) (drop from c.loop-used.entries) in
+    let answer : Answer = read_entry c.loop-used.next false (length part) rest in
+    let progress-is : step_numbers c.read_entry-step.result ≡ progress c.loop-used.next answer = c.read_entry-step.ensures.0
+    ∙ ap (λ (f : List ℕ). progress c.loop-used.next (read_entry c.loop-used.next false (length part) f)) (tail bits c.loop-used.used) in
+    let later : List ℕ = c.read_entry-step.new.out in
+    let later-is : later ≡ (one_outcome part answer).buffer = c.read_entry-step.ensures.1
+    ∙ ap (λ (f : List ℕ). (one_outcome part (read_entry c.loop-used.next false (length part) f)).buffer) (tail bits c.loop-used.used) in
+    let question : ℕ = refusal_number c.in-Halt.refusal in
+    let refused-is : answer ≡ refused question = halted c.loop-used.next answer question (sym (ap step_numbers c.in-Halt.is) ∙ progress-is) in
+    let kept : take from c.loop-used.entries ++ (later ++ drop (length c.loop-used.entries - from) (drop from c.loop-used.entries)) ≡ c.loop-used.entries = same_back c.loop-used.entries later from (rw refused-is at later-is) in
+    ap length kept ∙ c.loop-used.invariant.2
 
 pub returns-in-Halt : goal.returns-in-Halt
+unfolding stop one_outcome
 returns-in-Halt c =
-    let d = (goal.at.returns-in-Halt c).In-Halt in
-    let b = a (rh d) in
-    stopped-at b (question d) _ (kept d)
-    (rw (← free-slots b) (refused-step (length (part b)) b.loop.next (rest b) (some (rh d).before.before.before) (question d) (refused-is d)))
+    let bits : List ℕ = c.args.bits.now in
+    let buffer : List ℕ = c.args.entries.now in
+    let first : Due = c.args.due in
+    let rest : List ℕ = drop c.loop-used.used bits in
+    let slots : ℕ = length buffer / entry_size - c.loop-used.count in
+    let from : ℕ = c.loop-used.count * entry_size in
+    let part : List ℕ = take (length c.loop-used.entries - from) (drop from c.loop-used.entries) in
+    let answer : Answer = read_entry c.loop-used.next false (length part) rest in
+    let part_length : length part ≡ length buffer - from = rw (tail c.loop-used.entries from) (omega (arith, length-drop from c.loop-used.entries, c.loop-used.invariant.2)) in
+    let free-slots : length part / entry_size ≡ slots = omega (arith, part_length, c.loop-used.invariant.1) in
+    let stopped-at : (n : ℕ) (later : List ℕ) → later ≡ c.loop-used.entries → read_frames slots c.loop-used.next rest ≡ stop c.loop-used.next n → (◌≡◌ {A = Outcome} (record { count = c.loop-used.count; used = c.loop-used.used; refusal = n; buffer = later }) (read_from first buffer bits)) × (c.loop-used.next ≡ due_from first buffer bits) = (λ n later same e. (
+      rw same
+          (sym (resume-stop c.loop-used.count c.loop-used.used c.loop-used.entries c.loop-used.next n)
+          ∙ ap (resume c.loop-used.count c.loop-used.used c.loop-used.entries) (sym e)
+          ∙ c.loop-used.invariant.3),
+      rw e at c.loop-used.invariant.4,
+    )) in
+    let some : 0 < length rest = omega (arith, length-drop c.loop-used.used bits) in
+    let progress-is : step_numbers c.read_entry-step.result ≡ progress c.loop-used.next answer = c.read_entry-step.ensures.0
+    ∙ ap (λ (f : List ℕ). progress c.loop-used.next (read_entry c.loop-used.next false (length part) f)) (tail bits c.loop-used.used) in
+    let later : List ℕ = c.read_entry-step.new.out in
+    let later-is : later ≡ (one_outcome part answer).buffer = c.read_entry-step.ensures.1
+    ∙ ap (λ (f : List ℕ). (one_outcome part (read_entry c.loop-used.next false (length part) f)).buffer) (tail bits c.loop-used.used) in
+    let question : ℕ = refusal_number c.in-Halt.refusal in
+    let refused-is : answer ≡ refused question = halted c.loop-used.next answer question (sym (ap step_numbers c.in-Halt.is) ∙ progress-is) in
+    let kept : take from c.loop-used.entries ++ (later ++ drop (length c.loop-used.entries - from) (drop from c.loop-used.entries)) ≡ c.loop-used.entries = same_back c.loop-used.entries later from (rw refused-is at later-is) in
+    stopped-at question _ kept
+    (rw (← free-slots) (refused-step (length part) c.loop-used.next rest some question refused-is))
 
 pub overflow_add-used : goal.overflow_add-used
 overflow_add-used c =
-    let d = (goal.at.overflow_add-used c).In-Advance in
-    omega (arith, (went d).bits, left (rk d) (went d).true (went d).is)
+    let bits : List ℕ = c.args.bits.now in
+    let rest : List ℕ = drop c.loop-used.used bits in
+    let from : ℕ = c.loop-used.count * entry_size in
+    let part : List ℕ = take (length c.loop-used.entries - from) (drop from c.loop-used.entries) in
+    let answer : Answer = read_entry c.loop-used.next false (length part) rest in
+    let progress-is : step_numbers c.read_entry-step.result ≡ progress c.loop-used.next answer = c.read_entry-step.ensures.0
+    ∙ ap (λ (f : List ℕ). progress c.loop-used.next (read_entry c.loop-used.next false (length part) f)) (tail bits c.loop-used.used) in
+    let state : Due = Minute c.in-Advance.minute c.in-Advance.leap in
+    let went : Advanced c.loop-used.next answer c.in-Advance.length state = advanced c.loop-used.next answer c.in-Advance.length state
+    (sym (ap step_numbers c.in-Advance.is) ∙ progress-is) in
+    let e : Entry = went.taken in
+    let is : answer ≡ entry e = went.is in
+    let free : entry_size ≤ length part = room_of (length part) c.loop-used.next rest e is in
+    let entry-is : read_next c.loop-used.next false rest ≡ entry e = sym (yes-5 c.loop-used.next false (length part) rest free) ∙ is in
+    let fine : Accepted rest e = accepted c.loop-used.next false rest e entry-is in
+    let left : c.loop-used.used + e.seconds ≤ length bits = omega (arith, fine.enough-left, length-drop c.loop-used.used bits, c.loop-used.invariant.0) in
+    omega (arith, went.bits, left)
 
 pub loop-used-smaller : goal.loop-used-smaller
 loop-used-smaller c =
-    let d = (goal.at.loop-used-smaller c).In-Advance in
-    omega (arith, (went d).bits, left (rk d) (went d).true (went d).is, (fine (rk d) (went d).true (went d).is).long)
+    let bits : List ℕ = c.args.bits.now in
+    let rest : List ℕ = drop c.loop-used.used bits in
+    let from : ℕ = c.loop-used.count * entry_size in
+    let part : List ℕ = take (length c.loop-used.entries - from) (drop from c.loop-used.entries) in
+    let answer : Answer = read_entry c.loop-used.next false (length part) rest in
+    let progress-is : step_numbers c.read_entry-step.result ≡ progress c.loop-used.next answer = c.read_entry-step.ensures.0
+    ∙ ap (λ (f : List ℕ). progress c.loop-used.next (read_entry c.loop-used.next false (length part) f)) (tail bits c.loop-used.used) in
+    let state : Due = Minute c.in-Advance.minute c.in-Advance.leap in
+    let went : Advanced c.loop-used.next answer c.in-Advance.length state = advanced c.loop-used.next answer c.in-Advance.length state
+    (sym (ap step_numbers c.in-Advance.is) ∙ progress-is) in
+    let e : Entry = went.taken in
+    let is : answer ≡ entry e = went.is in
+    let free : entry_size ≤ length part = room_of (length part) c.loop-used.next rest e is in
+    let entry-is : read_next c.loop-used.next false rest ≡ entry e = sym (yes-5 c.loop-used.next false (length part) rest free) ∙ is in
+    let fine : Accepted rest e = accepted c.loop-used.next false rest e entry-is in
+    let left : c.loop-used.used + e.seconds ≤ length bits = omega (arith, fine.enough-left, length-drop c.loop-used.used bits, c.loop-used.invariant.0) in
+    omega (arith, went.bits, left, fine.long)
 
 pub loop-used-preserved : goal.loop-used-preserved
+unfolding one_outcome
 loop-used-preserved c =
-    let d = (goal.at.loop-used-preserved c).In-Advance in
-    again (rk d) (went d).true (went d).is _ (went d).bits _ (went d).next (later (rk d)) (later-is (rk d))
+    let bits : List ℕ = c.args.bits.now in
+    let buffer : List ℕ = c.args.entries.now in
+    let first : Due = c.args.due in
+    let rest : List ℕ = drop c.loop-used.used bits in
+    let slots : ℕ = length buffer / entry_size - c.loop-used.count in
+    let from : ℕ = c.loop-used.count * entry_size in
+    let part : List ℕ = take (length c.loop-used.entries - from) (drop from c.loop-used.entries) in
+    let answer : Answer = read_entry c.loop-used.next false (length part) rest in
+    let part_length : length part ≡ length buffer - from = rw (tail c.loop-used.entries from) (omega (arith, length-drop from c.loop-used.entries, c.loop-used.invariant.2)) in
+    let some : 0 < length rest = omega (arith, length-drop c.loop-used.used bits) in
+    let progress-is : step_numbers c.read_entry-step.result ≡ progress c.loop-used.next answer = c.read_entry-step.ensures.0
+    ∙ ap (λ (f : List ℕ). progress c.loop-used.next (read_entry c.loop-used.next false (length part) f)) (tail bits c.loop-used.used) in
+    let later : List ℕ = c.read_entry-step.new.out in
+    let later-is : later ≡ (one_outcome part answer).buffer = c.read_entry-step.ensures.1
+    ∙ ap (λ (f : List ℕ). (one_outcome part (read_entry c.loop-used.next false (length part) f)).buffer) (tail bits c.loop-used.used) in
+    let state : Due = Minute c.in-Advance.minute c.in-Advance.leap in
+    let went : Advanced c.loop-used.next answer c.in-Advance.length state = advanced c.loop-used.next answer c.in-Advance.length state
+    (sym (ap step_numbers c.in-Advance.is) ∙ progress-is) in
+    let e : Entry = went.taken in
+    let is : answer ≡ entry e = went.is in
+    let free : entry_size ≤ length part = room_of (length part) c.loop-used.next rest e is in
+    let room : from + entry_size ≤ length c.loop-used.entries = omega (arith, free, part_length, c.loop-used.invariant.2) in
+    let entry-is : read_next c.loop-used.next false rest ≡ entry e = sym (yes-5 c.loop-used.next false (length part) rest free) ∙ is in
+    let fine : Accepted rest e = accepted c.loop-used.next false rest e entry-is in
+    let left : c.loop-used.used + e.seconds ≤ length bits = omega (arith, fine.enough-left, length-drop c.loop-used.used bits, c.loop-used.invariant.0) in
+    let fewer : ℕ = length buffer / entry_size - (c.loop-used.count + 1) in
+    let one-slot : slots ≡ suc fewer = omega (arith, room, c.loop-used.invariant.2) in
+    let put_is : (ys : List ℕ) → ys ≡ (one_outcome part answer).buffer → ys ≡ entry_bytes e ++ drop entry_size part = (λ ys h. rw is at h) in (
+      rw went.bits left,
+      omega (arith, room, c.loop-used.invariant.2),
+      put-length c.loop-used.entries later from e room (put_is later later-is) ∙ c.loop-used.invariant.2,
+      turn fewer c.loop-used.count c.loop-used.used c.in-Advance.length c.loop-used.next state bits c.loop-used.entries later e (read_from first buffer bits)
+          went.bits went.next some entry-is room (put_is later later-is)
+          (ap (λ (s : ℕ). resume c.loop-used.count c.loop-used.used c.loop-used.entries (read_frames s c.loop-used.next rest)) (sym one-slot) ∙ c.loop-used.invariant.3),
+      turn-due fewer c.loop-used.used c.in-Advance.length c.loop-used.next state (due_from first buffer bits) bits e went.bits went.next
+          some entry-is (rw one-slot at c.loop-used.invariant.4),
+    )
 
 pub shape_of-entries : goal.shape_of-entries
-shape_of-entries c = c.loop-used.invariant.2
+shape_of-entries c =
+    c.loop-used.invariant.2
 
 pub returns : goal.returns
+unfolding stop
 returns c =
-    let d = (goal.at.returns c).At-loop-used in
-    let e : rest d ≡ [] = drop_of_length-le (bits d) {i = c.loop-used.used} c.loop-used-test.false in
-    stopped-at d 0 c.loop-used.entries refl (rw e (ended (slots d) c.loop-used.next))
+    let bits : List ℕ = c.args.bits.now in
+    let buffer : List ℕ = c.args.entries.now in
+    let first : Due = c.args.due in
+    let rest : List ℕ = drop c.loop-used.used bits in
+    let slots : ℕ = length buffer / entry_size - c.loop-used.count in
+    let stopped-at : (n : ℕ) (later : List ℕ) → later ≡ c.loop-used.entries → read_frames slots c.loop-used.next rest ≡ stop c.loop-used.next n → (◌≡◌ {A = Outcome} (record { count = c.loop-used.count; used = c.loop-used.used; refusal = n; buffer = later }) (read_from first buffer bits)) × (c.loop-used.next ≡ due_from first buffer bits) = (λ n later same e. (
+      rw same
+          (sym (resume-stop c.loop-used.count c.loop-used.used c.loop-used.entries c.loop-used.next n)
+          ∙ ap (resume c.loop-used.count c.loop-used.used c.loop-used.entries) (sym e)
+          ∙ c.loop-used.invariant.3),
+      rw e at c.loop-used.invariant.4,
+    )) in
+    let e : rest ≡ [] = drop_of_length-le bits {i = c.loop-used.used} c.loop-used-test.false in
+    stopped-at 0 c.loop-used.entries refl (rw e (ended slots c.loop-used.next))

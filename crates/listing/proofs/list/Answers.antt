@@ -21,6 +21,5 @@ returns-in-Illegal c =
 pub returns-in-Numbers : goal.returns-in-Numbers
 returns-in-Numbers c =
     let i = c.args.input.now in
-    let g = c.line-1.given in
     c.put_answer.ensures
-    ∙ ap (put_into _) (legal-listing i _ (sym (c.read_line-line.ensures ∙ ap line_in (cut_line i c.find-end.result c.find-end.ensures.value)) ∙ g.1))
+    ∙ ap (put_into _) (legal-listing i _ (sym (c.read_line-line.ensures ∙ ap line_in (cut_line i c.find-end.result c.find-end.ensures.value)) ∙ c.in-Numbers.is))

@@ -16,25 +16,21 @@ overflow_add-pages c =
 pub returns-then-out-pages : goal.returns-then-out-pages
 returns-then-out-pages c =
     let k = c.count_entries-count in
-    let g = c.count-in-Entries-1.given in
-    print-short c.args.bits.now c.args.out.now g.0.0 (sym (ap count_numbers g.1) ∙ k.ensures) (omega arith)
+    print-short c.args.bits.now c.args.out.now c.in-Entries.n (sym (ap count_numbers c.in-Entries.is) ∙ k.ensures) (omega arith)
 
 pub put_pages-requires : goal.put_pages-requires
 put_pages-requires c =
     let k = c.count_entries-count in
-    let g = c.count-in-Entries-1.given in
-    let h = sym (ap count_numbers g.1) ∙ k.ensures in
-    (accepted c.args.bits.now c.args.out.now g.0.0 h, fits c.args.bits.now c.args.out.now g.0.0 h (omega arith))
+    let h = sym (ap count_numbers c.in-Entries.is) ∙ k.ensures in
+    (accepted c.args.bits.now c.args.out.now c.in-Entries.n h, fits c.args.bits.now c.args.out.now c.in-Entries.n h (omega arith))
 
 pub returns-in-Halted : goal.returns-in-Halted
 returns-in-Halted c =
     let k = c.count_entries-count in
-    let g = c.count-1.given in
-    print-refused c.args.bits.now c.args.out.now _ (number-above g.0.0) (sym (ap count_numbers g.1) ∙ k.ensures)
+    print-refused c.args.bits.now c.args.out.now _ (number-above c.in-Halted.refusal) (sym (ap count_numbers c.in-Halted.is) ∙ k.ensures)
 
 pub returns-else-out-pages : goal.returns-else-out-pages
 returns-else-out-pages c =
     let k = c.count_entries-count in
-    let g = c.count-in-Entries-1.given in
-    print-done c.args.bits.now c.args.out.now g.0.0 (sym (ap count_numbers g.1) ∙ k.ensures) c.put_pages.new.out (omega arith)
+    print-done c.args.bits.now c.args.out.now c.in-Entries.n (sym (ap count_numbers c.in-Entries.is) ∙ k.ensures) c.put_pages.new.out (omega arith)
     c.put_pages.ensures

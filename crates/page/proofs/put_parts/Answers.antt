@@ -19,66 +19,6 @@ use Rattle.page.proofs.Lines.{lines-zero}
 use Rattle.page.proofs.Parts.{part, Part, part-read, space-kept}
 use Rattle.page.proofs.Pages.{rest, rest_from, RestAfter, rest_from_lem, rest_more, put-next-part, prefix-bytes, fits_in, ten}
 use Rattle.page.proofs.put_parts.Goals as goal
-use Rattle.page.proofs.put_parts.Goals.{After-read_from-part, At-loop-i}
-
--- at the loop's test
-module _ (a : At-loop-i) where
-  abbrev bits : List ℕ
-  bits = a.before.before.before.before.args.bits.now
-
-  abbrev buffer : List ℕ
-  buffer = a.before.before.before.before.args.out.now
-
-  abbrev due : Due
-  due = a.before.before.before.before.args.due
-
-  abbrev left : List ℕ
-  left = drop a.loop.used bits
-
-  abbrev es : List Entry
-  es = (read_on due bits).entries
-
-  so_far : RestAfter (a.loop.i * 10) due bits (rest a.loop.used a.loop.next)
-  so_far =
-      subst (RestAfter (a.loop.i * 10) due bits) (sym a.loop.invariant.2)
-      (rest_from_lem (a.loop.i * 10) due bits a.before.before.before.before.requires.0)
-
-  abbrev put : Put (lines_text (a.loop.i * 10) (take (a.loop.i * 10) es)) buffer a.loop.out (a.loop.i * 420)
-  put = a.loop.invariant.3
-
-  within : a.loop.i * 420 ≤ length a.loop.out
-  within = omega (arith, put.room, put-length put)
-
-  room : a.loop.i < 5 → 420 ≤ length (take (length a.loop.out - a.loop.i * 420) (drop (a.loop.i * 420) a.loop.out))
-  room h = omega (arith, rest-length put, a.before.before.before.before.requires.1)
-
--- after a part was read
-module _ (r : After-read_from-part) where
-  abbrev a : At-loop-i
-  a = r.before.before.before.before
-
-  abbrev later : List ℕ
-  later = r.read-from.last.1.0
-
-  got : Part a.loop.next (left a) a.loop.space later r.read-from.result
-  got =
-      part-read a.loop.next (left a) _ a.loop.space later r.read-from.result a.loop.invariant.1 (tail (bits a) a.loop.used)
-      r.read-from.ensures.0 r.read-from.ensures.1
-
-  same-space : length later ≡ 180
-  same-space = space-kept a.loop.next (left a) a.loop.space later r.read-from.result got a.loop.invariant.1
-
-  abbrev front : List ℕ
-  front = take (r.read-from.result.entries * 18) later
-
-  front-is : (front ≡ bytes_of (part a.loop.next (left a)).entries) × (r.read-from.result.entries * 18 ≤ 180)
-  front-is = prefix-bytes a.loop.next (left a) a.loop.space later r.read-from.result got
-
-  front_length : length front ≡ r.read-from.result.entries * 18
-  front_length = length-take-le (r.read-from.result.entries * 18) later (omega (arith, front-is.1, same-space))
-
-  bits_left : a.loop.used + r.read-from.result.used ≤ length (bits a)
-  bits_left = omega (arith, got.used, (sized 10 a.loop.next (left a)).within, length-drop a.loop.used (bits a), (so_far a).within)
 
 pub loop-i-init : goal.loop-i-init
 loop-i-init c =
@@ -90,67 +30,160 @@ loop-i-init c =
     )
 
 pub slice_bounds-read_from-count : goal.slice_bounds-read_from-count
-slice_bounds-read_from-count c = (so_far (goal.at.slice_bounds-read_from-count c).At-loop-i).within
+slice_bounds-read_from-count c =
+    let bits : List ℕ = c.args.bits.now in
+    let due : Due = c.args.due in
+    let so_far : RestAfter (c.loop-i.i * 10) due bits (rest c.loop-i.used c.loop-i.next) = subst (RestAfter (c.loop-i.i * 10) due bits) (sym c.loop-i.invariant.2)
+    (rest_from_lem (c.loop-i.i * 10) due bits c.requires.0) in
+    so_far.within
 
 pub slice_bounds-read_from-start : goal.slice_bounds-read_from-start
-slice_bounds-read_from-start c = (so_far (goal.at.slice_bounds-read_from-start c).At-loop-i).within
+slice_bounds-read_from-start c =
+    let bits : List ℕ = c.args.bits.now in
+    let due : Due = c.args.due in
+    let so_far : RestAfter (c.loop-i.i * 10) due bits (rest c.loop-i.used c.loop-i.next) = subst (RestAfter (c.loop-i.i * 10) due bits) (sym c.loop-i.invariant.2)
+    (rest_from_lem (c.loop-i.i * 10) due bits c.requires.0) in
+    so_far.within
 
 pub slice_bounds-read_from-end-in-loop-i : goal.slice_bounds-read_from-end-in-loop-i
-slice_bounds-read_from-end-in-loop-i c = sym c.loop-i.invariant.1
+slice_bounds-read_from-end-in-loop-i c =
+    sym c.loop-i.invariant.1
 
 pub overflow_mul-end : goal.overflow_mul-end
-overflow_mul-end c = omega (arith, (front-is (goal.at.overflow_mul-end c).After-read_from-part).1)
+overflow_mul-end c =
+    let bits : List ℕ = c.args.bits.now in
+    let left : List ℕ = drop c.loop-i.used bits in
+    let later : List ℕ = c.read_from-part.new.entries in
+    let got : Part c.loop-i.next left c.loop-i.space later c.read_from-part.result = part-read c.loop-i.next left _ c.loop-i.space later c.read_from-part.result c.loop-i.invariant.1 (tail bits c.loop-i.used)
+    c.read_from-part.ensures.0 c.read_from-part.ensures.1 in
+    let front : List ℕ = take (c.read_from-part.result.entries * 18) later in
+    let front-is : (front ≡ bytes_of (part c.loop-i.next left).entries) × (c.read_from-part.result.entries * 18 ≤ 180) = prefix-bytes c.loop-i.next left c.loop-i.space later c.read_from-part.result got in
+    omega (arith, front-is.1)
 
 pub slice_bounds-space-end : goal.slice_bounds-space-end
 slice_bounds-space-end c =
-    let d = (goal.at.slice_bounds-space-end c).After-read_from-part in
-    omega (arith, (front-is d).1, same-space d)
+    let bits : List ℕ = c.args.bits.now in
+    let left : List ℕ = drop c.loop-i.used bits in
+    let later : List ℕ = c.read_from-part.new.entries in
+    let got : Part c.loop-i.next left c.loop-i.space later c.read_from-part.result = part-read c.loop-i.next left _ c.loop-i.space later c.read_from-part.result c.loop-i.invariant.1 (tail bits c.loop-i.used)
+    c.read_from-part.ensures.0 c.read_from-part.ensures.1 in
+    let same-space : length later ≡ 180 = space-kept c.loop-i.next left c.loop-i.space later c.read_from-part.result got c.loop-i.invariant.1 in
+    let front : List ℕ = take (c.read_from-part.result.entries * 18) later in
+    let front-is : (front ≡ bytes_of (part c.loop-i.next left).entries) × (c.read_from-part.result.entries * 18 ≤ 180) = prefix-bytes c.loop-i.next left c.loop-i.space later c.read_from-part.result got in
+    omega (arith, front-is.1, same-space)
 
 pub slice_bounds-put_part-end : goal.slice_bounds-put_part-end
 slice_bounds-put_part-end c =
-    sym (front_length (goal.at.slice_bounds-put_part-end c).After-read_from-part)
+    let bits : List ℕ = c.args.bits.now in
+    let left : List ℕ = drop c.loop-i.used bits in
+    let later : List ℕ = c.read_from-part.new.entries in
+    let got : Part c.loop-i.next left c.loop-i.space later c.read_from-part.result = part-read c.loop-i.next left _ c.loop-i.space later c.read_from-part.result c.loop-i.invariant.1 (tail bits c.loop-i.used)
+    c.read_from-part.ensures.0 c.read_from-part.ensures.1 in
+    let same-space : length later ≡ 180 = space-kept c.loop-i.next left c.loop-i.space later c.read_from-part.result got c.loop-i.invariant.1 in
+    let front : List ℕ = take (c.read_from-part.result.entries * 18) later in
+    let front-is : (front ≡ bytes_of (part c.loop-i.next left).entries) × (c.read_from-part.result.entries * 18 ≤ 180) = prefix-bytes c.loop-i.next left c.loop-i.space later c.read_from-part.result got in
+    let front_length : length front ≡ c.read_from-part.result.entries * 18 = length-take-le (c.read_from-part.result.entries * 18) later (omega (arith, front-is.1, same-space)) in
+    sym front_length
 
 pub slice_bounds-put_part-count : goal.slice_bounds-put_part-count
 slice_bounds-put_part-count c =
-    within (a (goal.at.slice_bounds-put_part-count c).After-read_from-part)
+    let bits : List ℕ = c.args.bits.now in
+    let buffer : List ℕ = c.args.out.now in
+    let due : Due = c.args.due in
+    let es : List Entry = (read_on due bits).entries in
+    let put : Put (lines_text (c.loop-i.i * 10) (take (c.loop-i.i * 10) es)) buffer c.loop-i.out (c.loop-i.i * 420) = c.loop-i.invariant.3 in
+    let within : c.loop-i.i * 420 ≤ length c.loop-i.out = omega (arith, put.room, put-length put) in
+    within
 
 pub slice_bounds-put_part-start : goal.slice_bounds-put_part-start
 slice_bounds-put_part-start c =
-    within (a (goal.at.slice_bounds-put_part-start c).After-read_from-part)
+    let bits : List ℕ = c.args.bits.now in
+    let buffer : List ℕ = c.args.out.now in
+    let due : Due = c.args.due in
+    let es : List Entry = (read_on due bits).entries in
+    let put : Put (lines_text (c.loop-i.i * 10) (take (c.loop-i.i * 10) es)) buffer c.loop-i.out (c.loop-i.i * 420) = c.loop-i.invariant.3 in
+    let within : c.loop-i.i * 420 ≤ length c.loop-i.out = omega (arith, put.room, put-length put) in
+    within
 
 pub put_part-requires : goal.put_part-requires
 put_part-requires c =
-    let d = (goal.at.put_part-requires c).After-read_from-part in (
-      omega (arith, front_length d),
-      omega (arith, front_length d, (front-is d).1),
-      fits_in _ (front d) (front-is d).0 (each_fits 10 (a d).loop.next (left (a d))),
-      room (a d) (omega arith),
+    let bits : List ℕ = c.args.bits.now in
+    let buffer : List ℕ = c.args.out.now in
+    let due : Due = c.args.due in
+    let left : List ℕ = drop c.loop-i.used bits in
+    let es : List Entry = (read_on due bits).entries in
+    let put : Put (lines_text (c.loop-i.i * 10) (take (c.loop-i.i * 10) es)) buffer c.loop-i.out (c.loop-i.i * 420) = c.loop-i.invariant.3 in
+    let room : c.loop-i.i < 5 → 420 ≤ length (take (length c.loop-i.out - c.loop-i.i * 420) (drop (c.loop-i.i * 420) c.loop-i.out)) = λ h. omega (arith, rest-length put, c.requires.1) in
+    let later : List ℕ = c.read_from-part.new.entries in
+    let got : Part c.loop-i.next left c.loop-i.space later c.read_from-part.result = part-read c.loop-i.next left _ c.loop-i.space later c.read_from-part.result c.loop-i.invariant.1 (tail bits c.loop-i.used)
+    c.read_from-part.ensures.0 c.read_from-part.ensures.1 in
+    let same-space : length later ≡ 180 = space-kept c.loop-i.next left c.loop-i.space later c.read_from-part.result got c.loop-i.invariant.1 in
+    let front : List ℕ = take (c.read_from-part.result.entries * 18) later in
+    let front-is : (front ≡ bytes_of (part c.loop-i.next left).entries) × (c.read_from-part.result.entries * 18 ≤ 180) = prefix-bytes c.loop-i.next left c.loop-i.space later c.read_from-part.result got in
+    let front_length : length front ≡ c.read_from-part.result.entries * 18 = length-take-le (c.read_from-part.result.entries * 18) later (omega (arith, front-is.1, same-space)) in (
+      omega (arith, front_length),
+      omega (arith, front_length, front-is.1),
+      fits_in _ front front-is.0 (each_fits 10 c.loop-i.next left),
+      room (omega arith),
     )
 
 pub overflow_add-used : goal.overflow_add-used
-overflow_add-used c = omega (arith, bits_left (goal.at.overflow_add-used c).After-read_from-part)
+overflow_add-used c =
+    let bits : List ℕ = c.args.bits.now in
+    let due : Due = c.args.due in
+    let left : List ℕ = drop c.loop-i.used bits in
+    let so_far : RestAfter (c.loop-i.i * 10) due bits (rest c.loop-i.used c.loop-i.next) = subst (RestAfter (c.loop-i.i * 10) due bits) (sym c.loop-i.invariant.2)
+    (rest_from_lem (c.loop-i.i * 10) due bits c.requires.0) in
+    let later : List ℕ = c.read_from-part.new.entries in
+    let got : Part c.loop-i.next left c.loop-i.space later c.read_from-part.result = part-read c.loop-i.next left _ c.loop-i.space later c.read_from-part.result c.loop-i.invariant.1 (tail bits c.loop-i.used)
+    c.read_from-part.ensures.0 c.read_from-part.ensures.1 in
+    let bits_left : c.loop-i.used + c.read_from-part.result.used ≤ length bits = omega (arith, got.used, (sized 10 c.loop-i.next left).within, length-drop c.loop-i.used bits, so_far.within) in
+    omega (arith, bits_left)
 
 pub loop-i-preserved : goal.loop-i-preserved
 loop-i-preserved c =
-    let d = (goal.at.loop-i-preserved c).After-read_from-part in
-    let b = a d in
-    let i = b.loop.i in
-    let more = rest_more (i * 10) (due b) (bits b) b.before.before.before.before.requires.0 10 _ _ _ _ b.loop.invariant.2 (got d).used (got d).due in (
+    let bits : List ℕ = c.args.bits.now in
+    let buffer : List ℕ = c.args.out.now in
+    let due : Due = c.args.due in
+    let left : List ℕ = drop c.loop-i.used bits in
+    let es : List Entry = (read_on due bits).entries in
+    let so_far : RestAfter (c.loop-i.i * 10) due bits (rest c.loop-i.used c.loop-i.next) = subst (RestAfter (c.loop-i.i * 10) due bits) (sym c.loop-i.invariant.2)
+    (rest_from_lem (c.loop-i.i * 10) due bits c.requires.0) in
+    let put : Put (lines_text (c.loop-i.i * 10) (take (c.loop-i.i * 10) es)) buffer c.loop-i.out (c.loop-i.i * 420) = c.loop-i.invariant.3 in
+    let room : c.loop-i.i < 5 → 420 ≤ length (take (length c.loop-i.out - c.loop-i.i * 420) (drop (c.loop-i.i * 420) c.loop-i.out)) = λ h. omega (arith, rest-length put, c.requires.1) in
+    let later : List ℕ = c.read_from-part.new.entries in
+    let got : Part c.loop-i.next left c.loop-i.space later c.read_from-part.result = part-read c.loop-i.next left _ c.loop-i.space later c.read_from-part.result c.loop-i.invariant.1 (tail bits c.loop-i.used)
+    c.read_from-part.ensures.0 c.read_from-part.ensures.1 in
+    let same-space : length later ≡ 180 = space-kept c.loop-i.next left c.loop-i.space later c.read_from-part.result got c.loop-i.invariant.1 in
+    let front : List ℕ = take (c.read_from-part.result.entries * 18) later in
+    let front-is : (front ≡ bytes_of (part c.loop-i.next left).entries) × (c.read_from-part.result.entries * 18 ≤ 180) = prefix-bytes c.loop-i.next left c.loop-i.space later c.read_from-part.result got in
+    let i = c.loop-i.i in
+    let more = rest_more (i * 10) due bits c.requires.0 10 _ _ _ _ c.loop-i.invariant.2 got.used got.due in (
       omega arith,
-      same-space d,
-      more ∙ ap (λ (k : ℕ). rest_from k (due b) (bits b)) (ten i),
-      put-next-part (i * 10) b.loop.next (left b) (es b) (so_far b).going i (front d) (buffer b) b.loop.out c.put_part.new.out
-          refl (front-is d).0 (put b) (room b (omega arith)) c.put_part.ensures,
+      same-space,
+      more ∙ ap (λ (k : ℕ). rest_from k due bits) (ten i),
+      put-next-part (i * 10) c.loop-i.next left es so_far.going i front buffer c.loop-i.out c.put_part.new.out
+          refl front-is.0 put (room (omega arith)) c.put_part.ensures,
     )
 
 pub shape_of-out : goal.shape_of-out
-shape_of-out c = put-length (put (goal.at.shape_of-out c).At-loop-i)
+shape_of-out c =
+    let bits : List ℕ = c.args.bits.now in
+    let buffer : List ℕ = c.args.out.now in
+    let due : Due = c.args.due in
+    let es : List Entry = (read_on due bits).entries in
+    let put : Put (lines_text (c.loop-i.i * 10) (take (c.loop-i.i * 10) es)) buffer c.loop-i.out (c.loop-i.i * 420) = c.loop-i.invariant.3 in
+    put-length put
 
 pub returns : goal.returns
 unfolding page_entries rest_after
 returns c =
-    let d = (goal.at.returns c).At-loop-i in
+    let bits : List ℕ = c.args.bits.now in
+    let buffer : List ℕ = c.args.out.now in
+    let due : Due = c.args.due in
+    let es : List Entry = (read_on due bits).entries in
+    let put : Put (lines_text (c.loop-i.i * 10) (take (c.loop-i.i * 10) es)) buffer c.loop-i.out (c.loop-i.i * 420) = c.loop-i.invariant.3 in
     let n : c.loop-i.i ≡ 5 = omega arith in
-    let p : Put (lines_text 50 (take 50 (es d))) (buffer d) c.loop-i.out 2100 =
-    subst (λ (k : ℕ). Put (lines_text (k * 10) (take (k * 10) (es d))) (buffer d) c.loop-i.out (k * 420)) n (put d) in
-    (c.loop-i.invariant.2 ∙ ap (λ (k : ℕ). rest_from (k * 10) (due d) (bits d)) n, p.is)
+    let p : Put (lines_text 50 (take 50 es)) buffer c.loop-i.out 2100 =
+    subst (λ (k : ℕ). Put (lines_text (k * 10) (take (k * 10) es)) buffer c.loop-i.out (k * 420)) n put in
+    (c.loop-i.invariant.2 ∙ ap (λ (k : ℕ). rest_from (k * 10) due bits) n, p.is)

@@ -5,7 +5,7 @@ use borrow.Author.Rules.{rules}
 use Rattle.page_columns.proofs.digit_or_blank.Goals as goal
 
 pub returns-then-left-eq0 : goal.returns-then-left-eq0
-returns-then-left-eq0 c = rw (eq-eqb c.args.false 0 c.if-left-eq0.true)
+returns-then-left-eq0 c = rw (eq-eqb c.args.left 0 c.if-left-eq0.true)
 
 pub returns : goal.returns
-returns c = rw (ne_eqb c.args.false 0 c.if-left-eq0.false) c.digit.ensures
+returns c = rw (ne_eqb c.args.left 0 c.if-left-eq0.false) c.digit.ensures

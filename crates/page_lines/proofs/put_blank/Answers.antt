@@ -6,4 +6,4 @@ use Rattle.page_lines.proofs.put_blank.Goals as goal
 
 pub returns : goal.returns
 unfolding blanks feed
-returns c = rw c.line_of.ensures at c.copy.ensures.1
+returns c = rw c.line_of.ensures at c.copy.ensures

@@ -7,6 +7,7 @@ use Rattle.plan.proofs.Rows.{length-range}
 use Rattle.sequence.proofs.Sums.{seconds-in-day, seconds-over}
 use borrow.Author.Rules.{rules}
 use Rattle.recording.proofs.bits_needed.Goals as goal
+use Rattle.recording.proofs.bits_needed.Goals.{then-last-first, else-last-first}
 
 pub overflow_add-sum : goal.overflow_add-sum
 overflow_add-sum c =
@@ -16,5 +17,7 @@ overflow_add-sum c =
 pub returns : goal.returns
 returns c =
     let a = c.args in
-    ⊎_elim (λ x. omega (arith, x.1.ensures, x.2, seconds-over a.plan a.first a.count c.requires.0 x.0.true))
-    (λ x. omega (arith, x.1, seconds-in-day a.plan a.first a.count (omega (arith, x.0.false)))) c.if-last-first.branch
+    elim c.if-last-first.branch [
+      | then-last-first w ↦ omega (arith, w.length.ensures, w.sum-is, seconds-over a.plan a.first a.count c.requires.0 w.if-last-first.true)
+      | else-last-first w ↦ omega (arith, w.sum-is, seconds-in-day a.plan a.first a.count (omega (arith, w.if-last-first.false)))
+    ]

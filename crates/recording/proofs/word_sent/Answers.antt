@@ -19,67 +19,59 @@ use Rattle.format.specs.Message.{frame_of, message_body}
 use Rattle.format.proofs.Sending.{body-lt, frame-bits, message-lt, message-bits}
 use Rattle.recording.proofs.Turn.{message-sent, time-sent}
 use Rattle.recording.proofs.word_sent.Goals as goal
-use Rattle.recording.proofs.word_sent.Goals.{Start}
-
-module _ (a : Start) where
-  abbrev p : Plan
-  p = a.args.plan
-
-  abbrev s : List ℕ
-  s = a.args.messages.now
-
-  abbrev m : ℕ
-  m = a.args.minute
-
-  messages-ok : legal_messages (messages_in s) ≡ true
-  messages-ok = messages-legal (schedule_of p s) a.requires.0
-
-  notice : (sent_by p m).notice ≤ 1
-  unfolding sent_by
-  notice = notice-legal p (plan-legal (schedule_of p s) a.requires.0)
-
-  -- where a message is due
-  module _ (e : m ≡ a.args.due) where
-    abbrev d : ℕ
-    d = (message_at s a.args.k).payload
-
-    inside : a.args.k < length s / message_size
-    inside = index s messages-ok m a.args.k a.args.due a.requires.2 a.requires.1 e
-
-    small : d < 2 ^ 42
-    small = its-data s messages-ok m a.args.k a.args.due a.requires.2 a.requires.1 e
 
 pub payload_at-requires : goal.payload_at-requires
-payload_at-requires c = omega (arith, inside c c.if-minute-due.true)
+payload_at-requires c =
+    let p : Plan = c.args.plan in
+    let s : List ℕ = c.args.messages.now in
+    let m : ℕ = c.args.minute in
+    let messages-ok : legal_messages (messages_in s) ≡ true = messages-legal (schedule_of p s) c.requires.0 in
+    let inside : (e : m ≡ c.args.due) → c.args.k < length s / message_size = λ e. index s messages-ok m c.args.k c.args.due c.requires.2 c.requires.1 e in
+    omega (arith, inside c.if-minute-due.true)
 
 pub message_frame-requires : goal.message_frame-requires
 message_frame-requires c =
-    let d = (goal.at.message_frame-requires c).Start in
-    (plan-legal (schedule_of (p d) (s d)) c.requires.0, rw c.payload_at.ensures (small c c.if-minute-due.true))
+    let p : Plan = c.args.plan in
+    let s : List ℕ = c.args.messages.now in
+    let m : ℕ = c.args.minute in
+    let messages-ok : legal_messages (messages_in s) ≡ true = messages-legal (schedule_of p s) c.requires.0 in
+    let d : (e : m ≡ c.args.due) → ℕ = λ e. (message_at s c.args.k).payload in
+    let small : (e : m ≡ c.args.due) → d e < 2 ^ 42 = λ e. its-data s messages-ok m c.args.k c.args.due c.requires.2 c.requires.1 e in
+    (plan-legal (schedule_of p s) c.requires.0, rw c.payload_at.ensures (small c.if-minute-due.true))
 
 pub returns-then-minute-due : goal.returns-then-minute-due
+unfolding sent_by
 returns-then-minute-due c =
-    let u = (goal.at.returns-then-minute-due c).Start in
-    let x = sent_by (p u) (m u) in
+    let p : Plan = c.args.plan in
+    let s : List ℕ = c.args.messages.now in
+    let m : ℕ = c.args.minute in
+    let notice : (sent_by p m).notice ≤ 1 = notice-legal p (plan-legal (schedule_of p s) c.requires.0) in
+    let d : (e : m ≡ c.args.due) → ℕ = λ e. (message_at s c.args.k).payload in
+    let x = sent_by p m in
     let e = c.if-minute-due.true in
-    let w : c.message_frame.result ≡ number (message_body (bits 42 (d c e)) (x.minute % 2) x.notice) =
-    unfold sent_by in (rw c.payload_at.ensures at c.message_frame.ensures) in (
-      rw w (message-lt (d c e) (x.minute % 2) x.notice (omega arith) (omega (arith, notice u))),
-      message-bits x (d c e) _ (length_at (p u) (m u)) (notice u) w (unfold sent_by in refl)
-          ∙ ap frame_of (sym (message-sent (p u) (s u) c.requires.0 (m u) c.args.k c.args.due c.requires.2 c.requires.1 e)),
+    let w : c.message_frame.result ≡ number (message_body (bits 42 (d e)) (x.minute % 2) x.notice) =
+    (rw c.payload_at.ensures at c.message_frame.ensures) in (
+      rw w (message-lt (d e) (x.minute % 2) x.notice (omega arith) (omega (arith, notice))),
+      message-bits x (d e) _ (length_at p m) notice w (refl)
+          ∙ ap frame_of (sym (message-sent p s c.requires.0 m c.args.k c.args.due c.requires.2 c.requires.1 e)),
     )
 
 pub time_frame-requires : goal.time_frame-requires
 time_frame-requires c =
-    let d = (goal.at.time_frame-requires c).Start in
-    (plan-legal (schedule_of (p d) (s d)) c.requires.0, c.requires.1, c.requires.3)
+    let p : Plan = c.args.plan in
+    let s : List ℕ = c.args.messages.now in
+    (plan-legal (schedule_of p s) c.requires.0, c.requires.1, c.requires.3)
 
 pub returns : goal.returns
+unfolding sent_by
 returns c =
-    let d = (goal.at.returns c).Start in
-    let x = sent_by (p d) (m d) in
+    let p : Plan = c.args.plan in
+    let s : List ℕ = c.args.messages.now in
+    let m : ℕ = c.args.minute in
+    let notice : (sent_by p m).notice ≤ 1 = notice-legal p (plan-legal (schedule_of p s) c.requires.0) in
+    let x = sent_by p m in
     let w : c.time_frame.result ≡ number (body_of x) = c.time_frame.ensures in (
-      rw w (body-lt x (notice d)),
-      frame-bits x _ (length_at (p d) (m d)) (notice d) w (unfold sent_by in refl)
-          ∙ ap frame_of (sym (time-sent (p d) (s d) c.requires.0 (m d) c.args.k c.args.due c.requires.2 c.if-minute-due.false)),
+      rw w (body-lt x notice),
+      frame-bits x _ (length_at p m) notice w (refl)
+          ∙ ap frame_of (sym (time-sent p s c.requires.0 m c.args.k c.args.due c.requires.2 c.if-minute-due.false)),
     )

@@ -7,25 +7,24 @@ use borrow.Author.Rules.{rules}
 use Rattle.localtime.specs.Local.{local_of, local_numbers}
 use Rattle.wwvb.specs.Replies.{reply_numbers}
 use Rattle.wwvb.proofs.wwvb_local_date.Goals as goal
-use Rattle.wwvb.proofs.wwvb_local_date.Goals.{After-local_date-answer}
-
--- the answer, by the offset that came in
-asked : (c : After-local_date-answer) → local_numbers c.local_date-answer.result ≡ local_of c.args.minute c.args.state c.args.offset c.args.hour
-asked c =
-    let a = c.args in
-    subst (λ (z : ℤ). local_numbers c.local_date-answer.result ≡ local_of a.minute a.state z a.hour) (to_z-of_z c.ranges.offset) c.local_date-answer.ensures
 
 pub returns-in-Found : goal.returns-in-Found
 unfolding reply_numbers
 returns-in-Found c =
-    c.found.ensures ∙ ap (reply_numbers 6) (ap local_numbers (sym c.in-Found.is) ∙ asked (goal.at.returns-in-Found c).After-local_date-answer)
+    let asked : local_numbers c.local_date-answer.result ≡ local_of c.args.minute c.args.state c.args.offset c.args.hour = (let a = c.args in
+    subst (λ (z : ℤ). local_numbers c.local_date-answer.result ≡ local_of a.minute a.state z a.hour) (to_z-of_z c.ranges.offset) c.local_date-answer.ensures) in
+    c.found.ensures ∙ ap (reply_numbers 6) (ap local_numbers (sym c.in-Found.is) ∙ asked)
 
 pub returns-in-TooLarge : goal.returns-in-TooLarge
 unfolding reply_numbers
 returns-in-TooLarge c =
-    c.refused.ensures ∙ ap (reply_numbers 6) (ap local_numbers (sym c.in-TooLarge.is) ∙ asked (goal.at.returns-in-TooLarge c).After-local_date-answer)
+    let asked : local_numbers c.local_date-answer.result ≡ local_of c.args.minute c.args.state c.args.offset c.args.hour = (let a = c.args in
+    subst (λ (z : ℤ). local_numbers c.local_date-answer.result ≡ local_of a.minute a.state z a.hour) (to_z-of_z c.ranges.offset) c.local_date-answer.ensures) in
+    c.refused.ensures ∙ ap (reply_numbers 6) (ap local_numbers (sym c.in-TooLarge.is) ∙ asked)
 
 pub returns-in-BadSetting : goal.returns-in-BadSetting
 unfolding reply_numbers
 returns-in-BadSetting c =
-    c.refused-in-BadSetting.ensures ∙ ap (reply_numbers 6) (ap local_numbers (sym c.in-BadSetting.is) ∙ asked (goal.at.returns-in-BadSetting c).After-local_date-answer)
+    let asked : local_numbers c.local_date-answer.result ≡ local_of c.args.minute c.args.state c.args.offset c.args.hour = (let a = c.args in
+    subst (λ (z : ℤ). local_numbers c.local_date-answer.result ≡ local_of a.minute a.state z a.hour) (to_z-of_z c.ranges.offset) c.local_date-answer.ensures) in
+    c.refused-in-BadSetting.ensures ∙ ap (reply_numbers 6) (ap local_numbers (sym c.in-BadSetting.is) ∙ asked)

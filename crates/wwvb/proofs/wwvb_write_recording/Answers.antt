@@ -15,35 +15,24 @@ use Rattle.wwvb.specs.Replies.{plan_of}
 use Rattle.sequence.specs.Writing.{WriteNumbers, write_result, buffer_written}
 use Rattle.recording.specs.Answer.{write_numbers}
 use Rattle.wwvb.proofs.wwvb_write_recording.Goals as goal
-use Rattle.wwvb.proofs.wwvb_write_recording.Goals.{Start}
 
 abbrev refused_with : ℕ → WriteNumbers
 refused_with n = record { refusal = n; bits = 0 }
 
--- the plan that the struct holds is the plan of the six numbers: its sign is that of its bits
-module _ (a : Start) where
-  abbrev plan : ℤ → Schedule
-  plan z = schedule_of (plan_of a.args.kind a.args.spring a.args.autumn a.args.leap-month z a.args.notice) a.args.messages.now
-
-  same : plan (to_z w32 (of_z w32 a.args.leap-sign)) ≡ plan a.args.leap-sign
-  same = ap plan (to_z-of_z a.fits.leap-sign)
-
-  numbers : {w : WriteNumbers} → w ≡ write_result (plan (to_z w32 (of_z w32 a.args.leap-sign))) a.args.first a.args.count (length a.args.out.now)
-      → w ≡ write_result (plan a.args.leap-sign) a.args.first a.args.count (length a.args.out.now)
-  numbers e = e ∙ ap (λ (p : Schedule). write_result p a.args.first a.args.count (length a.args.out.now)) same
-
-  after : {l : List ℕ} → l ≡ buffer_written (plan (to_z w32 (of_z w32 a.args.leap-sign))) a.args.first a.args.count a.args.out.now
-      → l ≡ buffer_written (plan a.args.leap-sign) a.args.first a.args.count a.args.out.now
-  after e = e ∙ ap (λ (p : Schedule). buffer_written p a.args.first a.args.count a.args.out.now) same
-
 pub returns-in-Written : goal.returns-in-Written
 returns-in-Written c =
-    let d = (goal.at.returns-in-Written c).Start in
+    let plan : ℤ → Schedule = λ z. schedule_of (plan_of c.args.kind c.args.spring c.args.autumn c.args.leap_month z c.args.notice) c.args.messages.now in
+    let same : plan (to_z w32 (of_z w32 c.args.leap_sign)) ≡ plan c.args.leap_sign = ap plan (to_z-of_z c.ranges.leap-sign) in
+    let numbers : {w : WriteNumbers} → w ≡ write_result (plan (to_z w32 (of_z w32 c.args.leap_sign))) c.args.first c.args.count (length c.args.out.now) → w ≡ write_result (plan c.args.leap_sign) c.args.first c.args.count (length c.args.out.now) = λ e. e ∙ ap (λ (p : Schedule). write_result p c.args.first c.args.count (length c.args.out.now)) same in
+    let after : {l : List ℕ} → l ≡ buffer_written (plan (to_z w32 (of_z w32 c.args.leap_sign))) c.args.first c.args.count c.args.out.now → l ≡ buffer_written (plan c.args.leap_sign) c.args.first c.args.count c.args.out.now = λ e. e ∙ ap (λ (p : Schedule). buffer_written p c.args.first c.args.count c.args.out.now) same in
     let w = c.write_recording-answer in
-    (numbers d (ap write_numbers (sym c.in-Written.is) ∙ w.ensures.0), after d w.ensures.1)
+    (numbers (ap write_numbers (sym c.in-Written.is) ∙ w.ensures.0), after w.ensures.1)
 
 pub returns-in-Refused : goal.returns-in-Refused
 returns-in-Refused c =
-    let d = (goal.at.returns-in-Refused c).Start in
+    let plan : ℤ → Schedule = λ z. schedule_of (plan_of c.args.kind c.args.spring c.args.autumn c.args.leap_month z c.args.notice) c.args.messages.now in
+    let same : plan (to_z w32 (of_z w32 c.args.leap_sign)) ≡ plan c.args.leap_sign = ap plan (to_z-of_z c.ranges.leap-sign) in
+    let numbers : {w : WriteNumbers} → w ≡ write_result (plan (to_z w32 (of_z w32 c.args.leap_sign))) c.args.first c.args.count (length c.args.out.now) → w ≡ write_result (plan c.args.leap_sign) c.args.first c.args.count (length c.args.out.now) = λ e. e ∙ ap (λ (p : Schedule). write_result p c.args.first c.args.count (length c.args.out.now)) same in
+    let after : {l : List ℕ} → l ≡ buffer_written (plan (to_z w32 (of_z w32 c.args.leap_sign))) c.args.first c.args.count c.args.out.now → l ≡ buffer_written (plan c.args.leap_sign) c.args.first c.args.count c.args.out.now = λ e. e ∙ ap (λ (p : Schedule). buffer_written p c.args.first c.args.count c.args.out.now) same in
     let w = c.write_recording-answer in
-    (numbers d (ap refused_with c.number-refusal.ensures ∙ ap write_numbers (sym c.in-Refused.is) ∙ w.ensures.0), after d w.ensures.1)
+    (numbers (ap refused_with c.number-refusal.ensures ∙ ap write_numbers (sym c.in-Refused.is) ∙ w.ensures.0), after w.ensures.1)

@@ -8,26 +8,30 @@ use Rattle.decimal.proofs.Laws.{width-le}
 use Rattle.listing.proofs.Texts.{length-line}
 use borrow.Author.Rules.{rules}
 use Rattle.listing.proofs.text.line_length.Goals as goal
-use Rattle.listing.proofs.text.line_length.Goals.{After-digit_count-2}
-
--- each number has at most ten digits
-digits-few : (c : After-digit_count-2) → (c.digit_count.result ≤ 10) × (c.digit_count-2.result ≤ 10)
-digits-few c = (
-  omega (arith, c.digit_count.ensures, width-le 9 c.args.minute (omega arith)),
-  omega (arith, c.digit_count-2.ensures, width-le 9 c.length-seconds.result (omega arith)),
-)
 
 pub overflow_add-result : goal.overflow_add-result
 overflow_add-result c =
-    omega (arith, digits-few (goal.at.overflow_add-result c).After-digit_count-2)
+    let digits-few : (c.digit_count.result ≤ 10) × (c.digit_count-2.result ≤ 10) = (
+      omega (arith, c.digit_count.ensures, width-le 9 c.args.minute (omega arith)),
+      omega (arith, c.digit_count-2.ensures, width-le 9 c.length-seconds.result (omega arith)),
+    ) in
+    omega (arith, digits-few)
 
 pub overflow_add-result-2 : goal.overflow_add-result-2
 overflow_add-result-2 c =
-    omega (arith, digits-few (goal.at.overflow_add-result-2 c).After-digit_count-2)
+    let digits-few : (c.digit_count.result ≤ 10) × (c.digit_count-2.result ≤ 10) = (
+      omega (arith, c.digit_count.ensures, width-le 9 c.args.minute (omega arith)),
+      omega (arith, c.digit_count-2.ensures, width-le 9 c.length-seconds.result (omega arith)),
+    ) in
+    omega (arith, digits-few)
 
 pub overflow_add-result-3 : goal.overflow_add-result-3
 overflow_add-result-3 c =
-    omega (arith, digits-few (goal.at.overflow_add-result-3 c).After-digit_count-2)
+    let digits-few : (c.digit_count.result ≤ 10) × (c.digit_count-2.result ≤ 10) = (
+      omega (arith, c.digit_count.ensures, width-le 9 c.args.minute (omega arith)),
+      omega (arith, c.digit_count-2.ensures, width-le 9 c.length-seconds.result (omega arith)),
+    ) in
+    omega (arith, digits-few)
 
 pub returns : goal.returns
 returns c =

@@ -14,43 +14,35 @@ use Rattle.sequence.proofs.Putting.{Put, put_of, put-length}
 use Rattle.listing.proofs.Texts.{bits_put, length-bits}
 use borrow.Author.Rules.{rules}
 use Rattle.listing.proofs.text.put_frame.Goals as goal
-use Rattle.listing.proofs.text.put_frame.Goals.{After-write_frame-count}
-
-module _ (c : After-write_frame-count) where
-  abbrev f : List ℕ
-  f = frame (sent_by c.args.plan c.args.minute)
-
-  abbrev k : ℕ
-  k = length_at c.args.plan c.args.minute
-
-  abbrev out₀ : List ℕ
-  out₀ = c.args.out.now
-
-  abbrev ys : List ℕ
-  ys = c.write_frame-count.new.out
-
-  size : length f ≡ k
-  size = length-time c.args.plan c.args.minute
-
-  -- the frame stands in front
-  sent : Put f out₀ ys k
-  sent = put_of f out₀ ys k k size (omega (arith, c.requires.2)) refl c.write_frame-count.ensures.1
-
-  -- its digits and the line feed
-  printed : (zs : List ℕ) → zs ≡ map glyph (take c.write_frame-count.result ys)
-      → Put (bits_text f) out₀ (set (zs ++ drop c.write_frame-count.result ys) c.write_frame-count.result 10) (k + 1)
-  printed zs e =
-      put_of (bits_text f) out₀ _ (k + 1) (k + 1) (length-bits f ∙ ap (λ (n : ℕ). n + 1) size) (omega (arith, c.requires.2)) refl
-      (bits_put f out₀ ys zs k c.write_frame-count.result size c.write_frame-count.ensures.0 c.requires.2 c.write_frame-count.ensures.1 e)
 
 pub slice_bounds-print_bits-end-2 : goal.slice_bounds-print_bits-end-2
 slice_bounds-print_bits-end-2 c =
-    sym (length-take-le _ c.write_frame-count.new.out (omega (arith, put-length (sent (goal.at.slice_bounds-print_bits-end-2 c).After-write_frame-count), c.write_frame-count.ensures.0, c.requires.2)))
+    let f : List ℕ = frame (sent_by c.args.plan c.args.minute) in
+    let k : ℕ = length_at c.args.plan c.args.minute in
+    let out₀ : List ℕ = c.args.out.now in
+    let ys : List ℕ = c.write_frame-count.new.out in
+    let size : length f ≡ k = length-time c.args.plan c.args.minute in
+    let sent : Put f out₀ ys k = put_of f out₀ ys k k size (omega (arith, c.requires.2)) refl c.write_frame-count.ensures.1 in
+    sym (length-take-le _ c.write_frame-count.new.out (omega (arith, put-length sent, c.write_frame-count.ensures.0, c.requires.2)))
 
 pub shape_of-out : goal.shape_of-out
 shape_of-out c =
-    put-length (printed (goal.at.shape_of-out c).After-write_frame-count c.print_bits.new.bits c.print_bits.ensures)
+    let f : List ℕ = frame (sent_by c.args.plan c.args.minute) in
+    let k : ℕ = length_at c.args.plan c.args.minute in
+    let out₀ : List ℕ = c.args.out.now in
+    let ys : List ℕ = c.write_frame-count.new.out in
+    let size : length f ≡ k = length-time c.args.plan c.args.minute in
+    let printed : (zs : List ℕ) → zs ≡ map glyph (take c.write_frame-count.result ys) → Put (bits_text f) out₀ (set (zs ++ drop c.write_frame-count.result ys) c.write_frame-count.result 10) (k + 1) = λ zs e. put_of (bits_text f) out₀ _ (k + 1) (k + 1) (length-bits f ∙ ap (λ (n : ℕ). n + 1) size) (omega (arith, c.requires.2)) refl
+    (bits_put f out₀ ys zs k c.write_frame-count.result size c.write_frame-count.ensures.0 c.requires.2 c.write_frame-count.ensures.1 e) in
+    put-length (printed c.print_bits.new.bits c.print_bits.ensures)
 
 pub returns : goal.returns
 returns c =
-    (ap (λ (n : ℕ). n + 1) c.write_frame-count.ensures.0, (printed (goal.at.returns c).After-write_frame-count c.print_bits.new.bits c.print_bits.ensures).is)
+    let f : List ℕ = frame (sent_by c.args.plan c.args.minute) in
+    let k : ℕ = length_at c.args.plan c.args.minute in
+    let out₀ : List ℕ = c.args.out.now in
+    let ys : List ℕ = c.write_frame-count.new.out in
+    let size : length f ≡ k = length-time c.args.plan c.args.minute in
+    let printed : (zs : List ℕ) → zs ≡ map glyph (take c.write_frame-count.result ys) → Put (bits_text f) out₀ (set (zs ++ drop c.write_frame-count.result ys) c.write_frame-count.result 10) (k + 1) = λ zs e. put_of (bits_text f) out₀ _ (k + 1) (k + 1) (length-bits f ∙ ap (λ (n : ℕ). n + 1) size) (omega (arith, c.requires.2)) refl
+    (bits_put f out₀ ys zs k c.write_frame-count.result size c.write_frame-count.ensures.0 c.requires.2 c.write_frame-count.ensures.1 e) in
+    (ap (λ (n : ℕ). n + 1) c.write_frame-count.ensures.0, (printed c.print_bits.new.bits c.print_bits.ensures).is)

@@ -32,6 +32,6 @@ returns c =
     let k = c.copy in
     let p = c.put_lines in
     let l = lines_of a.plan a.first a.count in
-    let first = put_of heading a.out.now k.new.out 20 20 refl (omega arith) refl k.ensures.1 in
+    let first = put_of heading a.out.now k.new.out 20 20 refl (omega arith) refl k.ensures in
     let second = put_of l _ p.new.out (length l) n.result refl (rw (rest-length first) (omega (arith, n.ensures))) n.ensures p.ensures in
     put-done (20 + n.result) refl (put-more first second)

@@ -11,16 +11,16 @@ use Rattle.listing.proofs.Putting.{put-no, put-done}
 use Rattle.listing.proofs.Texts.{length-number, length-refused}
 use borrow.Author.Rules.{rules}
 use Rattle.listing.proofs.text.put_refused.Goals as goal
-use Rattle.listing.proofs.text.put_refused.Goals.{After-digit_count}
-
-few : (c : After-digit_count) → c.digit_count.result ≤ 10
-few c = omega (arith, c.digit_count.ensures, width-le 9 c.args.refusal (omega arith))
 
 pub overflow_add-needed : goal.overflow_add-needed
-overflow_add-needed c = omega (arith, few (goal.at.overflow_add-needed c).After-digit_count)
+overflow_add-needed c =
+    let few : c.digit_count.result ≤ 10 = omega (arith, c.digit_count.ensures, width-le 9 c.args.refusal (omega arith)) in
+    omega (arith, few)
 
 pub overflow_add-needed-2 : goal.overflow_add-needed-2
-overflow_add-needed-2 c = omega (arith, few (goal.at.overflow_add-needed-2 c).After-digit_count)
+overflow_add-needed-2 c =
+    let few : c.digit_count.result ≤ 10 = omega (arith, c.digit_count.ensures, width-le 9 c.args.refusal (omega arith)) in
+    omega (arith, few)
 
 pub returns-then-out-needed : goal.returns-then-out-needed
 returns-then-out-needed c =
@@ -35,6 +35,6 @@ returns c =
     let d = c.digit_count in
     let k = c.copy in
     let p = c.put_number in
-    let first = put_of refused_word b k.new.out 8 8 refl (omega arith) refl k.ensures.1 in
+    let first = put_of refused_word b k.new.out 8 8 refl (omega arith) refl k.ensures in
     let second = put_of (number_text n 10) _ p.new.out (width n + 1) (d.result + 1) (length-number n 10) (rw (rest-length first) (omega (arith, d.ensures))) (ap (λ (x : ℕ). x + 1) d.ensures) p.ensures.1 in
     put-done (8 + d.result + 1) (omega arith) (put-more first second)

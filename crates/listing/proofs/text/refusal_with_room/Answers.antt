@@ -7,15 +7,6 @@ use Rattle.sequence.specs.Writing.{write_refusal, WriteNumbers, write_result}
 use Rattle.listing.proofs.Asking.{no-refusal, a-refusal}
 use borrow.Author.Rules.{rules}
 use Rattle.listing.proofs.text.refusal_with_room.Goals as goal
-use Rattle.listing.proofs.text.refusal_with_room.Goals.{After-number-number}
-
--- the number that the sender gives
-said : (c : After-number-number) → let a = c.args in
-    c.number-number.result ≡ write_refusal (plain a.plan) a.first a.count 1
-unfolding write_result
-said c =
-    c.number-number.ensures
-    ∙ ap (λ (x : WriteNumbers). x.refusal) (rw c.in-Refused.is at c.write_plain-answer.ensures.0)
 
 pub returns-in-Written : goal.returns-in-Written
 unfolding write_result
@@ -26,10 +17,14 @@ returns-in-Written c =
 
 pub returns-then-number-eq-SPACE_QUESTION : goal.returns-then-number-eq-SPACE_QUESTION
 returns-then-number-eq-SPACE_QUESTION c =
+    let said : let a = c.args in c.number-number.result ≡ write_refusal (plain a.plan) a.first a.count 1 = unfold write_result in c.number-number.ensures
+    ∙ ap (λ (x : WriteNumbers). x.refusal) (rw c.in-Refused.is at c.write_plain-answer.ensures.0) in
     let a = c.args in
-    no-refusal a.plan a.first a.count 1 c.number-number.result (said (goal.at.returns-then-number-eq-SPACE_QUESTION c).After-number-number) (inr c.if-number-eq-SPACE_QUESTION.true)
+    no-refusal a.plan a.first a.count 1 c.number-number.result said (inr c.if-number-eq-SPACE_QUESTION.true)
 
 pub returns-else-number-eq-SPACE_QUESTION : goal.returns-else-number-eq-SPACE_QUESTION
 returns-else-number-eq-SPACE_QUESTION c =
+    let said : let a = c.args in c.number-number.result ≡ write_refusal (plain a.plan) a.first a.count 1 = unfold write_result in c.number-number.ensures
+    ∙ ap (λ (x : WriteNumbers). x.refusal) (rw c.in-Refused.is at c.write_plain-answer.ensures.0) in
     let a = c.args in
-    a-refusal a.plan a.first a.count 1 c.number-number.result (said (goal.at.returns-else-number-eq-SPACE_QUESTION c).After-number-number) c.if-number-eq-SPACE_QUESTION.false
+    a-refusal a.plan a.first a.count 1 c.number-number.result said c.if-number-eq-SPACE_QUESTION.false

@@ -19,25 +19,6 @@ use Rattle.amplitude_writer.specs.declared.WriteAnswer.TheVariants.{Refused}
 use Rattle.wwvb.specs.Replies.{plan_of, reply_numbers}
 use borrow.Author.Rules.{rules}
 use Rattle.wwvb.proofs.amplitude.wwvb_write_amplitude.Goals as goal
-use Rattle.wwvb.proofs.amplitude.wwvb_write_amplitude.Goals.{Start}
-
--- the plan that the struct holds is the plan of the six numbers: its sign is that of its bits, and so is that of UT1; the messages are those given
-module _ (a : Start) where
-  abbrev schedule : ℤ → Schedule
-  schedule z = schedule_of (plan_of a.args.kind a.args.spring a.args.autumn a.args.leap-month z a.args.notice) a.args.messages.now
-
-  abbrev through : ℤ → ℤ
-  through z = to_z w32 (of_z w32 z)
-
-  -- what a function of both signs gives
-  by-signs : {A : Type 0} {x y : A} (f : ℤ → ℤ → A) → x ≡ y → y ≡ f (through a.args.leap-sign) (through a.args.ut1-sign) → x ≡ f a.args.leap-sign a.args.ut1-sign
-  by-signs f d e = d ∙ e ∙ ap₂ f (to_z-of_z a.fits.leap-sign) (to_z-of_z a.fits.ut1-sign)
-
-  abbrev numbers_by : ℤ → ℤ → Numbers
-  numbers_by z y = write_amplitude (schedule z) a.args.minute y a.args.ut1-tenths (length a.args.out.now)
-
-  abbrev buffer_by : ℤ → ℤ → List ℕ
-  buffer_by z y = symbols_written (schedule z) a.args.minute y a.args.ut1-tenths a.args.out.now
 
 refused-reply : (x : WriteRefusal) → write_refusal_number x ∷ 0 ∷ [] ≡ reply_numbers 1 (write_numbers (Refused x))
 unfolding reply_numbers
@@ -49,16 +30,24 @@ refused-reply Space = refl
 pub returns-in-Written : goal.returns-in-Written
 unfolding reply_numbers
 returns-in-Written c =
-    let d = (goal.at.returns-in-Written c).Start in
+    let schedule : ℤ → Schedule = λ z. schedule_of (plan_of c.args.kind c.args.spring c.args.autumn c.args.leap_month z c.args.notice) c.args.messages.now in
+    let through : ℤ → ℤ = λ z. to_z w32 (of_z w32 z) in
+    let by-signs : {A : Type 0} {x y : A} (f : ℤ → ℤ → A) → x ≡ y → y ≡ f (through c.args.leap_sign) (through c.args.ut1_sign) → x ≡ f c.args.leap_sign c.args.ut1_sign = λ f d e. d ∙ e ∙ ap₂ f (to_z-of_z c.ranges.leap-sign) (to_z-of_z c.ranges.ut1-sign) in
+    let numbers_by : ℤ → ℤ → Numbers = λ z y. write_amplitude (schedule z) c.args.minute y c.args.ut1_tenths (length c.args.out.now) in
+    let buffer_by : ℤ → ℤ → List ℕ = λ z y. symbols_written (schedule z) c.args.minute y c.args.ut1_tenths c.args.out.now in
     let w = c.write_minute-answer in
-    (ap (reply_numbers 1) (by-signs d (numbers_by d) (ap write_numbers (sym c.in-Written.is)) w.ensures.0), by-signs d (buffer_by d) refl w.ensures.1)
+    (ap (reply_numbers 1) (by-signs numbers_by (ap write_numbers (sym c.in-Written.is)) w.ensures.0), by-signs buffer_by refl w.ensures.1)
 
 pub returns-in-Refused : goal.returns-in-Refused
 returns-in-Refused c =
-    let d = (goal.at.returns-in-Refused c).Start in
+    let schedule : ℤ → Schedule = λ z. schedule_of (plan_of c.args.kind c.args.spring c.args.autumn c.args.leap_month z c.args.notice) c.args.messages.now in
+    let through : ℤ → ℤ = λ z. to_z w32 (of_z w32 z) in
+    let by-signs : {A : Type 0} {x y : A} (f : ℤ → ℤ → A) → x ≡ y → y ≡ f (through c.args.leap_sign) (through c.args.ut1_sign) → x ≡ f c.args.leap_sign c.args.ut1_sign = λ f d e. d ∙ e ∙ ap₂ f (to_z-of_z c.ranges.leap-sign) (to_z-of_z c.ranges.ut1-sign) in
+    let numbers_by : ℤ → ℤ → Numbers = λ z y. write_amplitude (schedule z) c.args.minute y c.args.ut1_tenths (length c.args.out.now) in
+    let buffer_by : ℤ → ℤ → List ℕ = λ z y. symbols_written (schedule z) c.args.minute y c.args.ut1_tenths c.args.out.now in
     let w = c.write_minute-answer in (
       ap (λ (n : ℕ). n ∷ 0 ∷ []) c.number-refusal.ensures
           ∙ refused-reply c.in-Refused.question
-          ∙ ap (reply_numbers 1) (by-signs d (numbers_by d) (ap write_numbers (sym c.in-Refused.is)) w.ensures.0),
-      by-signs d (buffer_by d) refl w.ensures.1,
+          ∙ ap (reply_numbers 1) (by-signs numbers_by (ap write_numbers (sym c.in-Refused.is)) w.ensures.0),
+      by-signs buffer_by refl w.ensures.1,
     )

@@ -19,22 +19,6 @@ use Rattle.irig.specs.declared.WriteAnswer.TheVariants.{Refused}
 use Rattle.wwvb.specs.Replies.{plan_of, reply_numbers}
 use borrow.Author.Rules.{rules}
 use Rattle.wwvb.proofs.irig_b.wwvb_write_irig.Goals as goal
-use Rattle.wwvb.proofs.irig_b.wwvb_write_irig.Goals.{Start}
-
--- the plan that the struct holds is the plan of the six numbers: its sign is that of its bits; the messages are those given
-module _ (a : Start) where
-  abbrev schedule : ℤ → Schedule
-  schedule z = schedule_of (plan_of a.args.kind a.args.spring a.args.autumn a.args.leap-month z a.args.notice) a.args.messages.now
-
-  -- what a function of the sign gives
-  by_sign : {A : Type 0} {x y : A} (f : ℤ → A) → x ≡ y → y ≡ f (to_z w32 (of_z w32 a.args.leap-sign)) → x ≡ f a.args.leap-sign
-  by_sign f d e = d ∙ e ∙ ap f (to_z-of_z a.fits.leap-sign)
-
-  abbrev numbers_by : ℤ → Numbers
-  numbers_by z = write_irig (schedule z) a.args.minute a.args.second (length a.args.out.now)
-
-  abbrev buffer_by : ℤ → List ℕ
-  buffer_by z = elements_written (schedule z) a.args.minute a.args.second a.args.out.now
 
 refused-reply : (x : WriteRefusal) → write_refusal_number x ∷ 0 ∷ [] ≡ reply_numbers 1 (write_numbers (Refused x))
 unfolding reply_numbers
@@ -46,16 +30,22 @@ refused-reply Space = refl
 pub returns-in-Written : goal.returns-in-Written
 unfolding reply_numbers
 returns-in-Written c =
-    let d = (goal.at.returns-in-Written c).Start in
+    let schedule : ℤ → Schedule = λ z. schedule_of (plan_of c.args.kind c.args.spring c.args.autumn c.args.leap_month z c.args.notice) c.args.messages.now in
+    let by_sign : {A : Type 0} {x y : A} (f : ℤ → A) → x ≡ y → y ≡ f (to_z w32 (of_z w32 c.args.leap_sign)) → x ≡ f c.args.leap_sign = λ f d e. d ∙ e ∙ ap f (to_z-of_z c.ranges.leap-sign) in
+    let numbers_by : ℤ → Numbers = λ z. write_irig (schedule z) c.args.minute c.args.second (length c.args.out.now) in
+    let buffer_by : ℤ → List ℕ = λ z. elements_written (schedule z) c.args.minute c.args.second c.args.out.now in
     let w = c.write_second-answer in
-    (ap (reply_numbers 1) (by_sign d (numbers_by d) (ap write_numbers (sym c.in-Written.is)) w.ensures.0), by_sign d (buffer_by d) refl w.ensures.1)
+    (ap (reply_numbers 1) (by_sign numbers_by (ap write_numbers (sym c.in-Written.is)) w.ensures.0), by_sign buffer_by refl w.ensures.1)
 
 pub returns-in-Refused : goal.returns-in-Refused
 returns-in-Refused c =
-    let d = (goal.at.returns-in-Refused c).Start in
+    let schedule : ℤ → Schedule = λ z. schedule_of (plan_of c.args.kind c.args.spring c.args.autumn c.args.leap_month z c.args.notice) c.args.messages.now in
+    let by_sign : {A : Type 0} {x y : A} (f : ℤ → A) → x ≡ y → y ≡ f (to_z w32 (of_z w32 c.args.leap_sign)) → x ≡ f c.args.leap_sign = λ f d e. d ∙ e ∙ ap f (to_z-of_z c.ranges.leap-sign) in
+    let numbers_by : ℤ → Numbers = λ z. write_irig (schedule z) c.args.minute c.args.second (length c.args.out.now) in
+    let buffer_by : ℤ → List ℕ = λ z. elements_written (schedule z) c.args.minute c.args.second c.args.out.now in
     let w = c.write_second-answer in (
       ap (λ (n : ℕ). n ∷ 0 ∷ []) c.number-refusal.ensures
           ∙ refused-reply c.in-Refused.question
-          ∙ ap (reply_numbers 1) (by_sign d (numbers_by d) (ap write_numbers (sym c.in-Refused.is)) w.ensures.0),
-      by_sign d (buffer_by d) refl w.ensures.1,
+          ∙ ap (reply_numbers 1) (by_sign numbers_by (ap write_numbers (sym c.in-Refused.is)) w.ensures.0),
+      by_sign buffer_by refl w.ensures.1,
     )
