@@ -4,44 +4,46 @@
 use amplitude_reader::ReadAnswer;
 use amplitude_rules::Values;
 use amplitude_writer::WriteAnswer;
+use std::io;
+use std::io::Write;
 use trials::{dates, show};
 
 // 0 and the date, UT1 sign and tenths, warning, dst_on[1] and dst_on[0], length.
-fn values(r: Values) {
-    dates::of_minute(r.minute);
-    show::sign(r.sign);
-    show::value(r.tenths);
-    show::value(r.warning);
-    show::daylight(r.daylight);
-    show::value(r.seconds);
+fn values<W: Write>(to: &mut W, r: Values) -> io::Result<()> {
+    dates::of_minute(to, r.minute)?;
+    show::sign(to, r.sign)?;
+    show::value(to, r.tenths)?;
+    show::value(to, r.warning)?;
+    show::daylight(to, r.daylight)?;
+    show::value(to, r.seconds)
 }
 
 // Reads the first n symbols: the refusal, or 0 and what they say.
-fn read(symbols: &[u8], n: usize) {
-    if n <= symbols.len() {
-        let answer = amplitude_reader::read_minute(&symbols[0..n]);
-        match answer {
-            ReadAnswer::Read(r) => values(r),
-            ReadAnswer::BadSymbols => show::value(17),
-            ReadAnswer::BadValue => show::value(18),
-        }
+fn read<W: Write>(to: &mut W, symbols: &[u8], n: usize) -> io::Result<()> {
+    if symbols.len() < n {
+        return Ok(());
+    }
+    match amplitude_reader::read_minute(&symbols[0..n]) {
+        ReadAnswer::Read(r) => values(to, r),
+        ReadAnswer::BadSymbols => show::value(to, 17),
+        ReadAnswer::BadValue => show::value(to, 18),
     }
 }
 
 // Reads n given symbols.
-pub fn given(digits: &[u8], n: usize) {
+pub fn given<W: Write>(to: &mut W, digits: &[u8], n: usize) -> io::Result<()> {
     let mut symbols = [0u8; 128];
     cases::load(digits, &mut symbols);
-    read(&symbols, n);
+    read(to, &symbols, n)
 }
 
 // Writes a minute: one text has the plan and the minute, the other UT1 and the messages. The refusal or 0 is printed, the number of
 // symbols given back.
-fn write(plan: &[u8], ut1: &[u8], out: &mut [u8]) -> usize {
+fn write<W: Write>(to: &mut W, plan: &[u8], ut1: &[u8], out: &mut [u8]) -> io::Result<usize> {
     let messages = cases::messages(ut1, 4);
     let n = cases::size(ut1, 4);
     if messages.len() < n {
-        return 0;
+        return Ok(0);
     }
     let answer = amplitude_writer::write_minute(
         cases::plan(plan),
@@ -53,39 +55,46 @@ fn write(plan: &[u8], ut1: &[u8], out: &mut [u8]) -> usize {
     );
     match answer {
         WriteAnswer::Written(n) => {
-            show::value(0);
-            n
+            show::value(to, 0)?;
+            Ok(n)
         }
         WriteAnswer::Refused(refusal) => {
-            show::value(refusal.number());
-            0
+            show::value(to, refusal.number())?;
+            Ok(0)
         }
     }
 }
 
 // Writes to the front of the bytes.
-fn write_front(plan: &[u8], ut1: &[u8], out: &mut [u8], space: usize) -> usize {
+fn write_front<W: Write>(
+    to: &mut W,
+    plan: &[u8],
+    ut1: &[u8],
+    out: &mut [u8],
+    space: usize,
+) -> io::Result<usize> {
     if out.len() < space {
-        return 0;
+        return Ok(0);
     }
-    write(plan, ut1, &mut out[0..space])
+    write(to, plan, ut1, &mut out[0..space])
 }
 
 // Writes into so many bytes of 64: the refusal or 0, the number of symbols, all 64 bytes, and what reading the symbols gives.
-fn minute(plan: &[u8], ut1: &[u8]) {
+fn minute<W: Write>(to: &mut W, plan: &[u8], ut1: &[u8]) -> io::Result<()> {
     let mut out = [7u8; 64];
-    let n = write_front(plan, ut1, &mut out, cases::size(ut1, 3));
-    show::size(n);
-    show::digits(&out, 64);
+    let n = write_front(to, plan, ut1, &mut out, cases::size(ut1, 3))?;
+    show::size(to, n)?;
+    show::digits(to, &out, 64)?;
     if 0 < n {
-        show::mark(b':');
-        read(&out, n);
+        show::mark(to, b':')?;
+        read(to, &out, n)?;
     }
+    Ok(())
 }
 
 // `plan .. minute M, UT1 SIGN TENTHS, in SPACE:` is taken in two halves, as each may have a minus. The first number of the second
 // half is the 1 of `UT1`; the messages of a plan come last, as in `plan .. in SPACE, 10 bytes of messages MINUTE DATA:`.
-pub fn written(text: &[u8]) {
+pub fn written<W: Write>(to: &mut W, text: &[u8]) -> io::Result<()> {
     let comma = spans::find(text, 0, text.len(), b',');
-    minute(&text[0..comma], &text[comma..]);
+    minute(to, &text[0..comma], &text[comma..])
 }

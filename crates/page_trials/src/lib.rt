@@ -3,6 +3,9 @@
 
 use page::{PAGE_SIZE, PrintAnswer};
 use page_lines::LINE_SIZE;
+use std::io;
+use std::io::Write;
+use trials::sending::SENT_SPACE;
 use trials::{sending, show};
 
 // Space for six frames.
@@ -27,82 +30,93 @@ const MINUTE_END: usize = 7;
 const LINE_END: usize = 40;
 
 // Shows line k of a page, unless it is blank: no other line is blank in both columns.
-fn line(page: &[u8], k: usize) {
+fn line<W: Write>(to: &mut W, page: &[u8], k: usize) -> io::Result<()> {
     let from = k % PAGE_LINES * LINE_SIZE;
     let end = from + LINE_END;
     if end < page.len() {
         if page[from + MINUTE_END] != BLANK || page[end] != BLANK {
-            show::end();
-            show::text(&page[from..end + 1]);
+            show::end(to)?;
+            show::text(to, &page[from..end + 1])?;
         }
     }
+    Ok(())
 }
 
 // Shows the lines of a page that are not blank.
-fn lines(page: &[u8]) {
-    let mut k: usize = 0;
-    while k < PAGE_LINES {
-        line(page, k);
-        k += 1;
+fn lines<W: Write>(to: &mut W, page: &[u8]) -> io::Result<()> {
+    for k in 0..PAGE_LINES {
+        line(to, page, k)?;
     }
+    Ok(())
 }
 
 // Shows the last page of the first n bytes.
-fn last_page(text: &[u8], n: usize) {
-    if PAGE_SIZE <= n {
-        if n <= text.len() {
-            lines(&text[n - PAGE_SIZE..n]);
-        }
+fn last_page<W: Write>(to: &mut W, text: &[u8], n: usize) -> io::Result<()> {
+    if PAGE_SIZE <= n && n <= text.len() {
+        lines(to, &text[n - PAGE_SIZE..n])?;
     }
+    Ok(())
 }
 
 // Prints to the front of the bytes: the refusal or 0 is shown, the number of bytes given back.
-fn print_front(bits: &[u8], out: &mut [u8], space: usize) -> usize {
+fn print_front<W: Write>(
+    to: &mut W,
+    bits: &[u8],
+    out: &mut [u8],
+    space: usize,
+) -> io::Result<usize> {
     if out.len() < space {
-        return 0;
+        return Ok(0);
     }
     let answer = page::print_pages(bits, &mut out[0..space]);
     match answer {
         PrintAnswer::Written(n) => {
-            show::value(0);
-            n
+            show::value(to, 0)?;
+            Ok(n)
         }
         PrintAnswer::NoSpace => {
-            show::value(4);
-            0
+            show::value(to, 4)?;
+            Ok(0)
         }
         PrintAnswer::Refused(refusal) => {
-            show::value(refusal.number());
-            0
+            show::value(to, refusal.number())?;
+            Ok(0)
         }
     }
 }
 
 // Prints the first n bits into so many bytes: the refusal or 0, the number of bytes, the check sum of the text with every byte after
 // it, and the lines of the last page that are not blank.
-fn print(bits: &[u8], n: usize, out: &mut [u8], space: usize) {
+fn print<W: Write>(
+    to: &mut W,
+    bits: &[u8],
+    n: usize,
+    out: &mut [u8],
+    space: usize,
+) -> io::Result<()> {
     if n <= bits.len() {
-        let size = print_front(&bits[0..n], out, space);
-        show::size(size);
-        show::value(cases::check_sum(out));
-        last_page(out, size);
+        let size = print_front(to, &bits[0..n], out, space)?;
+        show::size(to, size)?;
+        show::value(to, cases::check_sum(out))?;
+        last_page(to, out, size)?;
     }
+    Ok(())
 }
 
 // Prints n given bits; the first number is the space.
-pub fn given(text: &[u8], digits: &[u8], n: usize) {
+pub fn given<W: Write>(to: &mut W, text: &[u8], digits: &[u8], n: usize) -> io::Result<()> {
     let mut bits = [0u8; BIT_SPACE];
     let mut out = [7u8; PAGES_SPACE];
     cases::load(digits, &mut bits);
-    print(&bits, n, &mut out, cases::size(text, 0));
+    print(to, &bits, n, &mut out, cases::size(text, 0))
 }
 
 // `plan .. sends FIRST COUNT, SPACE bytes for pages:` writes, and prints what was written. The messages of a plan come last.
-pub fn sent(text: &[u8]) {
-    let mut bits = io::large_buffer();
+pub fn sent<W: Write>(to: &mut W, text: &[u8]) -> io::Result<()> {
+    let mut bits = [0u8; SENT_SPACE];
     let mut out = [7u8; PAGES_SPACE];
     let answer = sending::write(text, cases::number(text, 7), 9, &mut bits);
-    print(&bits, answer.bits, &mut out, cases::size(text, 8));
+    print(to, &bits, answer.bits, &mut out, cases::size(text, 8))
 }
 
 // The place after place k of n bits, of which those from the first on are repeated.
@@ -124,31 +138,30 @@ fn bit(bits: &[u8], k: usize) -> u8 {
 // Fills the bytes with n bits, of which those from the first on are repeated.
 fn fill(bits: &[u8], first: usize, n: usize, out: &mut [u8]) {
     let mut k: usize = 0;
-    let mut i: usize = 0;
-    while i < out.len() {
-        out[i] = bit(bits, k);
+    for place in out.iter_mut() {
+        *place = bit(bits, k);
         k = next(k, first, n);
-        i += 1;
     }
 }
 
 // Prints a long recording of n given bits: number 0 is how many stand first, and the others are repeated. Number 1 is how many bits
 // there are in all, and number 2 the space.
-fn print_long(
+fn print_long<W: Write>(
+    to: &mut W,
     text: &[u8],
     digits: &[u8],
     n: usize,
     all: &mut [u8; LONG_BITS],
     out: &mut [u8; LONG_SPACE],
-) {
+) -> io::Result<()> {
     let mut bits = [0u8; BIT_SPACE];
     cases::load(digits, &mut bits);
     fill(&bits, cases::size(text, 0), n, all);
-    print(all, cases::size(text, 1), out, cases::size(text, 2));
+    print(to, all, cases::size(text, 1), out, cases::size(text, 2))
 }
 
-pub fn long(text: &[u8], digits: &[u8], n: usize) {
+pub fn long<W: Write>(to: &mut W, text: &[u8], digits: &[u8], n: usize) -> io::Result<()> {
     let mut all = [0u8; LONG_BITS];
     let mut out = [7u8; LONG_SPACE];
-    print_long(text, digits, n, &mut all, &mut out);
+    print_long(to, text, digits, n, &mut all, &mut out)
 }

@@ -1,33 +1,49 @@
 // Prints the pages of the recording whose digits are on standard input.
 #![tactic(auto)]
 
-ghost use Rattle.io.specs.Counts.{IsPrefixLen};
+ghost use Rattle.std.specs.Prelude.{ℕ, ◌≤◌, List, length, take, OnOk};
+ghost use Rattle.std.specs.Io.KnownBytes.{Appends, Consumes};
+ghost use Rattle.book.specs.Book.{printed};
 
 use book::{BOOK_SPACE, INPUT_SPACE};
-use libc::{STDERR_FILENO, STDIN_FILENO, STDOUT_FILENO};
+use std::io;
+use std::io::{Read, Write};
 
-// Writes the first n bytes of a text to standard output. Where a write fails, standard error says so.
-fn print(text: &[u8], n: usize)
-    requires { IsPrefixLen n text.now }
+// Writes the first n bytes of a text.
+fn print<W: Write>(to: &mut W, text: &[u8], n: usize) -> io::Result<()>
+    requires { n ≤ length text.now }
+    ensures { OnOk result (Appends (W.contents to.old) (W.contents to.new) (take n text.now)) }
 {
-    let written = io::write_all(STDOUT_FILENO, &text[..n]);
-    if !written {
-        io::write_all(
-            STDERR_FILENO,
-            b"shiftbook: the output could not be written\n",
-        );
-    }
+    to.write_all(&text[..n])
 }
 
-// Reads the input and prints its text.
-fn run(input: &mut [u8], text: &mut [u8; BOOK_SPACE]) {
-    let count = io::read_full(STDIN_FILENO, input);
+// Reads an input and writes its text.
+fn run<R: Read, W: Write>(
+    from: &mut R,
+    to: &mut W,
+    input: &mut [u8],
+    text: &mut [u8; BOOK_SPACE],
+) -> io::Result<()>
+    ensures { OnOk result ((bytes : List ℕ)
+        × Consumes (R.remaining from.old) (R.remaining from.new) bytes
+        × Appends (W.contents to.old) (W.contents to.new) (printed bytes)) }
+{
+    let count = console::read_full(from, input);
     let n = book::print_book(&mut input[..count], text);
-    print(text, n);
+    print(to, text, n)
 }
 
-fn main() {
+// Where a write fails, standard error says so.
+fn main(rt: HostRuntime) {
     let mut input = [0u8; INPUT_SPACE];
     let mut text = [0u8; BOOK_SPACE];
-    run(&mut input, &mut text);
+    let written = run(
+        &mut rt.reader(),
+        &mut io::writer(&rt),
+        &mut input,
+        &mut text,
+    );
+    if written.is_err() {
+        console::say_unwritten(&rt, "shiftbook");
+    }
 }

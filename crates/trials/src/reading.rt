@@ -2,6 +2,8 @@
 use crate::show;
 use entries::{ENTRY_SIZE, One, Summary};
 use format::Due;
+use std::io;
+use std::io::Write;
 
 // Space for the most frames of a recording.
 const ENTRY_SPACE: usize = 1000 * ENTRY_SIZE;
@@ -10,97 +12,119 @@ const ENTRY_SPACE: usize = 1000 * ENTRY_SIZE;
 const BIT_SPACE: usize = 6 * 61;
 
 // Of one frame: the refusal or 0.
-fn one(answer: One) {
-    let end = answer.end;
-    show::value(end.number());
+fn one<W: Write>(to: &mut W, answer: One) -> io::Result<()> {
+    show::value(to, answer.end.number())
 }
 
 // Of a recording: the entries, the bits used, and the refusal or 0.
-fn summary(answer: Summary) {
-    let end = answer.end;
-    show::size(answer.entries);
-    show::size(answer.used);
-    show::value(end.number());
+fn summary<W: Write>(to: &mut W, answer: Summary) -> io::Result<()> {
+    show::size(to, answer.entries)?;
+    show::size(to, answer.used)?;
+    show::value(to, answer.end.number())
 }
 
 // The state after a reading: the minute expected, and the leap state last read in its month, 3 where none was.
-fn state(due: Due) {
-    show::text(b", then");
+fn state<W: Write>(to: &mut W, due: Due) -> io::Result<()> {
+    show::text(to, b", then")?;
     match due {
-        Due::Any => show::text(b" any"),
+        Due::Any => show::text(to, b" any"),
         Due::Minute(minute, leap) => {
-            show::value(minute);
-            show::value(leap as u32);
+            show::value(to, minute)?;
+            show::value(to, u32::from(leap))
         }
     }
 }
 
 // Reads the bits, in a state with `i` and `u`: as one frame, or as a recording.
-fn read_as(letter: u8, bits: &[u8], entries: &mut [u8], due: Due) {
+fn read_as<W: Write>(
+    to: &mut W,
+    letter: u8,
+    bits: &[u8],
+    entries: &mut [u8],
+    due: Due,
+) -> io::Result<()> {
     match letter {
-        b's' | b'o' => {
-            let answer = entries::read_one(bits, entries, Due::Any);
-            one(answer);
-        }
+        b's' | b'o' => one(to, entries::read_one(bits, entries, Due::Any)),
         b'i' => {
             let answer = entries::read_one(bits, entries, due);
-            one(answer);
-            let after = answer.due;
-            state(after);
+            one(to, answer)?;
+            state(to, answer.due)
         }
         b'u' => {
             let answer = entries::read_from(bits, entries, due);
-            summary(answer);
-            let after = answer.due;
-            state(after);
+            summary(to, answer)?;
+            state(to, answer.due)
         }
-        _ => {
-            let answer = entries::read_recording(bits, entries);
-            summary(answer);
-        }
+        _ => summary(to, entries::read_recording(bits, entries)),
     }
 }
 
 // Reads into the front of the entry bytes.
-fn read_front(letter: u8, bits: &[u8], entries: &mut [u8], space: usize, due: Due) {
+fn read_front<W: Write>(
+    to: &mut W,
+    letter: u8,
+    bits: &[u8],
+    entries: &mut [u8],
+    space: usize,
+    due: Due,
+) -> io::Result<()> {
     if space <= entries.len() {
-        read_as(letter, bits, &mut entries[0..space], due);
+        read_as(to, letter, bits, &mut entries[0..space], due)?;
     }
+    Ok(())
 }
 
 // Reads the first n bits as a letter says, with so many entry bytes: what reading gives, and, but for a long recording, these bytes
 // with two more.
-pub fn read(letter: u8, bits: &[u8], n: usize, space: usize, due: Due) {
+pub fn read<W: Write>(
+    to: &mut W,
+    letter: u8,
+    bits: &[u8],
+    n: usize,
+    space: usize,
+    due: Due,
+) -> io::Result<()> {
     let mut entries = [7u8; ENTRY_SPACE + 2];
     if n <= bits.len() {
-        show::mark(b':');
-        read_front(letter, &bits[0..n], &mut entries, space, due);
-        if letter != b'l' {
-            if space <= ENTRY_SPACE {
-                show::bytes(&entries, space + 2);
-            }
+        show::mark(to, b':')?;
+        read_front(to, letter, &bits[0..n], &mut entries, space, due)?;
+        if letter != b'l' && space <= ENTRY_SPACE {
+            show::bytes(to, &entries, space + 2)?;
         }
     }
+    Ok(())
 }
 
 // Reads n given bits; the first number is the entry space.
-pub fn given(letter: u8, text: &[u8], digits: &[u8], n: usize) {
+pub fn given<W: Write>(
+    to: &mut W,
+    letter: u8,
+    text: &[u8],
+    digits: &[u8],
+    n: usize,
+) -> io::Result<()> {
     let mut bits = [0u8; BIT_SPACE];
     cases::load(digits, &mut bits);
-    read(letter, &bits, n, cases::size(text, 0), Due::Any);
+    read(to, letter, &bits, n, cases::size(text, 0), Due::Any)
 }
 
 // The same in the state that the next numbers are, and with `i` as one frame before.
-pub fn resumed(letter: u8, text: &[u8], digits: &[u8], n: usize) {
+pub fn resumed<W: Write>(
+    to: &mut W,
+    letter: u8,
+    text: &[u8],
+    digits: &[u8],
+    n: usize,
+) -> io::Result<()> {
     let mut bits = [0u8; BIT_SPACE];
     cases::load(digits, &mut bits);
     let space = cases::size(text, 0);
     let leap = (cases::number(text, 2) % 256) as u8;
     let due = Due::Minute(cases::number(text, 1), leap);
     if letter == b'i' {
-        read(b'i', &bits, n, space, due);
+        read(to, b'i', &bits, n, space, due)?;
     }
-    read(b'u', &bits, n, space, due);
+    read(to, b'u', &bits, n, space, due)
 }
 
 // A reading in pieces: the entries and the bits so far, the refusal or 0 of the last piece, and the state after it.
@@ -114,31 +138,32 @@ struct Run {
 
 // Reads one piece more, into the same entry bytes.
 fn piece(run: Run, bits: &[u8], entries: &mut [u8]) -> Run {
-    let before = run.due;
-    let answer = entries::read_from(bits, entries, before);
-    let end = answer.end;
-    let due = answer.due;
+    let answer = entries::read_from(bits, entries, run.due);
     Run {
-        entries: std::num::wrapping_add_usize(run.entries, answer.entries),
-        used: std::num::wrapping_add_usize(run.used, answer.used),
-        refusal: end.number(),
-        due,
+        entries: run.entries.wrapping_add(answer.entries),
+        used: run.used.wrapping_add(answer.used),
+        refusal: answer.end.number(),
+        due: answer.due,
     }
 }
 
 // Reads a piece so many times.
 fn repeated(run: Run, bits: &[u8], times: u32, entries: &mut [u8]) -> Run {
     let mut after = run;
-    let mut k: u32 = 0;
-    while k < times {
+    for _ in 0..times {
         after = piece(after, bits, entries);
-        k += 1;
     }
     after
 }
 
 // Reads the first bits, and then the others so many times: the entries, the bits used, the refusal or 0, and the state after it.
-fn read_pieces(bits: &[u8], first: usize, times: u32, entries: &mut [u8]) {
+fn read_pieces<W: Write>(
+    to: &mut W,
+    bits: &[u8],
+    first: usize,
+    times: u32,
+    entries: &mut [u8],
+) -> io::Result<()> {
     let start = Run {
         entries: 0,
         used: 0,
@@ -148,37 +173,40 @@ fn read_pieces(bits: &[u8], first: usize, times: u32, entries: &mut [u8]) {
     if first <= bits.len() {
         let begun = piece(start, &bits[0..first], entries);
         let run = repeated(begun, &bits[first..], times, entries);
-        show::size(run.entries);
-        show::size(run.used);
-        show::value(run.refusal);
-        let due = run.due;
-        state(due);
+        show::size(to, run.entries)?;
+        show::size(to, run.used)?;
+        show::value(to, run.refusal)?;
+        state(to, run.due)?;
     }
+    Ok(())
 }
 
 // Reads n given bits in pieces, each in the state that the one before left: number 0 is how many bits the first has, and all others
 // are read as often as number 1 says. What reading gives in all, and the entries of the last piece.
-pub fn pieces(text: &[u8], digits: &[u8], n: usize) {
+pub fn pieces<W: Write>(to: &mut W, text: &[u8], digits: &[u8], n: usize) -> io::Result<()> {
     let mut bits = [0u8; BIT_SPACE];
     let mut entries = [7u8; 2 * ENTRY_SIZE];
     cases::load(digits, &mut bits);
     if n <= BIT_SPACE {
-        show::mark(b':');
+        show::mark(to, b':')?;
         read_pieces(
+            to,
             &bits[0..n],
             cases::size(text, 0),
             cases::number(text, 1),
             &mut entries,
-        );
-        show::bytes(&entries, 2 * ENTRY_SIZE);
+        )?;
+        show::bytes(to, &entries, 2 * ENTRY_SIZE)?;
     }
+    Ok(())
 }
 
 // Reads the first n bits as one frame: what its plan gave it.
-pub fn facts(bits: &[u8], n: usize) {
+pub fn facts<W: Write>(to: &mut W, bits: &[u8], n: usize) -> io::Result<()> {
     let mut entry = [7u8; ENTRY_SIZE];
     if n <= bits.len() {
         entries::read_one(&bits[0..n], &mut entry, Due::Any);
-        show::facts(&entry);
+        show::facts(to, &entry)?;
     }
+    Ok(())
 }

@@ -6,7 +6,8 @@
 mod calls;
 mod listings;
 
-use libc::{STDERR_FILENO, STDIN_FILENO, STDOUT_FILENO};
+use std::io;
+use std::io::Write;
 use trials::show;
 
 // Space for all cases.
@@ -18,46 +19,39 @@ const SPACE: u8 = b' ';
 
 const HASH: u8 = b'#';
 
-// Tries one case: the first n bytes of the input that is left. False where the end of its line could not be written.
-fn case(rest: &[u8], n: usize) -> bool {
+// Tries one case: the first n bytes of the input that is left.
+fn case<W: Write>(to: &mut W, rest: &[u8], n: usize) -> io::Result<()> {
     let space = spans::find(rest, 0, rest.len(), SPACE);
     let hash = spans::find(rest, 0, rest.len(), HASH);
-    if space < hash {
-        if hash < rest.len() {
-            if hash < n {
-                show::text(&rest[space + 1..hash]);
-                calls::call(rest[0], &rest[0..hash], &rest[hash + 1..], n - hash - 1);
-                return io::write_all(STDOUT_FILENO, b"\n");
-            }
-        }
+    if space < hash && hash < rest.len() && hash < n {
+        show::text(to, &rest[space + 1..hash])?;
+        calls::call(to, rest[0], &rest[0..hash], &rest[hash + 1..], n - hash - 1)?;
+        show::end(to)?;
     }
-    true
+    Ok(())
 }
 
 // Tries each case, up to the first that could not be written.
-fn cases(input: &[u8]) -> bool {
+fn cases<W: Write>(to: &mut W, input: &[u8]) -> io::Result<()> {
     let mut at: usize = 0;
     while at < input.len() {
         let end = spans::find(input, at, input.len(), LINE_FEED);
-        let written = case(&input[at..], end - at);
-        if !written {
-            return false;
-        }
+        case(to, &input[at..], end - at)?;
         at = end + 1;
     }
-    true
+    Ok(())
 }
 
 // Says on standard error that the output could not be written, where that is so.
-fn report(written: bool) {
-    if !written {
-        io::write_all(STDERR_FILENO, b"vectors: the output could not be written\n");
+fn report(rt: &impl Eprint, written: io::Result<()>) {
+    if written.is_err() {
+        console::say_unwritten(rt, "vectors");
     }
 }
 
-fn main() {
+fn main(rt: HostRuntime) {
     let mut input = [0u8; INPUT_SPACE];
-    let n = io::read_full(STDIN_FILENO, &mut input);
-    let written = cases(&input[..n]);
-    report(written);
+    let n = console::read_full(&mut rt.reader(), &mut input);
+    let written = cases(&mut rt.stdout(), &input[..n]);
+    report(&rt, written);
 }

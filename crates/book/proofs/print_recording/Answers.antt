@@ -12,8 +12,7 @@ pub returns-in-Written : goal.returns-in-Written
 returns-in-Written c =
     let space : length (pages_of c.args.bits.now) ≤ length c.args.out.now = omega (arith, c.print_pages-arg-1.given.0.1, pages-few c.args.bits.now c.requires) in
     let a = c.args in
-    let x = c.answer-1.given in
-    pages-printed a.bits.now a.out.now c.print_pages-answer.new.out space x.0.0 (rw x.1 at c.print_pages-answer.ensures)
+    pages-printed a.bits.now a.out.now c.print_pages-answer.new.out space c.in-Written.n (rw c.in-Written.is at c.print_pages-answer.ensures)
 
 pub returns-in-NoSpace : goal.returns-in-NoSpace
 returns-in-NoSpace c =
@@ -26,9 +25,8 @@ pub returns-in-Refused : goal.returns-in-Refused
 returns-in-Refused c =
     let space : length (pages_of c.args.bits.now) ≤ length c.args.out.now = omega (arith, c.print_pages-arg-1.given.0.1, pages-few c.args.bits.now c.requires) in
     let a = c.args in
-    let x = c.answer-in-Refused-1.given in
     let p = c.put_refusal in
     let n = c.number in
-    let e = rw x.1 at c.print_pages-answer.ensures in
+    let e = rw c.in-Refused.is at c.print_pages-answer.ensures in
     let after = c.print_pages-answer.new.out in
-    refusal-put a.bits.now a.out.now after space x.0.0 n.result p.result p.new.out e n.ensures p.ensures.0 p.ensures.1
+    refusal-put a.bits.now a.out.now after space c.in-Refused.refusal n.result p.result p.new.out e n.ensures p.ensures.0 p.ensures.1

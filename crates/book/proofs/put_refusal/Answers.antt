@@ -12,8 +12,7 @@ pub returns-in-Listed : goal.returns-in-Listed
 returns-in-Listed c =
     let space : length (refused_text c.args.number) ≤ length c.args.out.now = omega (arith, c.put_refused-arg-1.given.0.1, refused-short c.args.number (omega arith)) in
     let a = c.args in
-    let x = c.answer-1.given in
-    text-listed (refused_text a.number) a.out.now c.put_refused-answer.new.out space x.0.0 (rw x.1 at c.put_refused-answer.ensures)
+    text-listed (refused_text a.number) a.out.now c.put_refused-answer.new.out space c.in-Listed.n (rw c.in-Listed.is at c.put_refused-answer.ensures)
 
 pub returns-in-NoSpace : goal.returns-in-NoSpace
 returns-in-NoSpace c =

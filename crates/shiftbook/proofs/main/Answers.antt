@@ -1,8 +1,7 @@
 -- `shiftbook::main` is safe and ends: an array is lent whole.
 -- Assumes nothing.
-use Prim.Native.Nat.{ℕ}
-use mathlib.Core.Path.{◌≡◌, sym}
-use lib.ListN.{length, replicate, length-replicate}
+use Rattle.std.proofs.Common.{◌≡◌, ℕ, length, replicate, sym}
+use Rattle.std.proofs.lemmas.List.{length-replicate}
 use Rattle.shiftbook.proofs.main.Goals as goal
 
 -- the length of an array of equal bytes, stated for any length: at a large one it is not computed

@@ -5,7 +5,7 @@ use mathlib.Core.Path.{◌≡◌, sym, ap, ◌∙◌}
 use borrow.Author.Rules.{rules}
 use mathlib.Core.List.{List}
 use mir.Syntax.{w32}
-use mir.Val.{of_z, to_z}
+use mir.Val.{SFits, of_z, to_z}
 use mir.Facts.{to_z-of_z}
 use lib.IntN.{ℤ}
 use lib.ListN.{length}
@@ -22,17 +22,17 @@ refused_with n = record { refusal = n; bits = 0 }
 pub returns-in-Written : goal.returns-in-Written
 returns-in-Written c =
     let plan : ℤ → Schedule = λ z. schedule_of (plan_of c.args.kind c.args.spring c.args.autumn c.args.leap_month z c.args.notice) c.args.messages.now in
-    let same : plan (to_z w32 (of_z w32 c.args.leap_sign)) ≡ plan c.args.leap_sign = ap plan (to_z-of_z c.ranges.leap-sign) in
-    let numbers : {w : WriteNumbers} → w ≡ write_result (plan (to_z w32 (of_z w32 c.args.leap_sign))) c.args.first c.args.count (length c.args.out.now) → w ≡ write_result (plan c.args.leap_sign) c.args.first c.args.count (length c.args.out.now) = λ e. e ∙ ap (λ (p : Schedule). write_result p c.args.first c.args.count (length c.args.out.now)) same in
-    let after : {l : List ℕ} → l ≡ buffer_written (plan (to_z w32 (of_z w32 c.args.leap_sign))) c.args.first c.args.count c.args.out.now → l ≡ buffer_written (plan c.args.leap_sign) c.args.first c.args.count c.args.out.now = λ e. e ∙ ap (λ (p : Schedule). buffer_written p c.args.first c.args.count c.args.out.now) same in
+    let same : plan (to_z w32 (of_z w32 c.args.leap_sign)) ≡ plan c.args.leap_sign = ap plan (to_z-of_z c.ranges.leap_sign) in
+    let numbers : (w : WriteNumbers) → w ≡ write_result (plan (to_z w32 (of_z w32 c.args.leap_sign))) c.args.first c.args.count (length c.args.out.now) → w ≡ write_result (plan c.args.leap_sign) c.args.first c.args.count (length c.args.out.now) = λ w e. e ∙ ap (λ (p : Schedule). write_result p c.args.first c.args.count (length c.args.out.now)) same in
+    let after : (l : List ℕ) → l ≡ buffer_written (plan (to_z w32 (of_z w32 c.args.leap_sign))) c.args.first c.args.count c.args.out.now → l ≡ buffer_written (plan c.args.leap_sign) c.args.first c.args.count c.args.out.now = λ l e. e ∙ ap (λ (p : Schedule). buffer_written p c.args.first c.args.count c.args.out.now) same in
     let w = c.write_recording-answer in
-    (numbers (ap write_numbers (sym c.in-Written.is) ∙ w.ensures.0), after w.ensures.1)
+    (numbers _ (ap write_numbers (sym c.in-Written.is) ∙ w.ensures.0), after _ w.ensures.1)
 
 pub returns-in-Refused : goal.returns-in-Refused
 returns-in-Refused c =
     let plan : ℤ → Schedule = λ z. schedule_of (plan_of c.args.kind c.args.spring c.args.autumn c.args.leap_month z c.args.notice) c.args.messages.now in
-    let same : plan (to_z w32 (of_z w32 c.args.leap_sign)) ≡ plan c.args.leap_sign = ap plan (to_z-of_z c.ranges.leap-sign) in
-    let numbers : {w : WriteNumbers} → w ≡ write_result (plan (to_z w32 (of_z w32 c.args.leap_sign))) c.args.first c.args.count (length c.args.out.now) → w ≡ write_result (plan c.args.leap_sign) c.args.first c.args.count (length c.args.out.now) = λ e. e ∙ ap (λ (p : Schedule). write_result p c.args.first c.args.count (length c.args.out.now)) same in
-    let after : {l : List ℕ} → l ≡ buffer_written (plan (to_z w32 (of_z w32 c.args.leap_sign))) c.args.first c.args.count c.args.out.now → l ≡ buffer_written (plan c.args.leap_sign) c.args.first c.args.count c.args.out.now = λ e. e ∙ ap (λ (p : Schedule). buffer_written p c.args.first c.args.count c.args.out.now) same in
+    let same : plan (to_z w32 (of_z w32 c.args.leap_sign)) ≡ plan c.args.leap_sign = ap plan (to_z-of_z c.ranges.leap_sign) in
+    let numbers : (w : WriteNumbers) → w ≡ write_result (plan (to_z w32 (of_z w32 c.args.leap_sign))) c.args.first c.args.count (length c.args.out.now) → w ≡ write_result (plan c.args.leap_sign) c.args.first c.args.count (length c.args.out.now) = λ w e. e ∙ ap (λ (p : Schedule). write_result p c.args.first c.args.count (length c.args.out.now)) same in
+    let after : (l : List ℕ) → l ≡ buffer_written (plan (to_z w32 (of_z w32 c.args.leap_sign))) c.args.first c.args.count c.args.out.now → l ≡ buffer_written (plan c.args.leap_sign) c.args.first c.args.count c.args.out.now = λ l e. e ∙ ap (λ (p : Schedule). buffer_written p c.args.first c.args.count c.args.out.now) same in
     let w = c.write_recording-answer in
-    (numbers (ap refused_with c.number-refusal.ensures ∙ ap write_numbers (sym c.in-Refused.is) ∙ w.ensures.0), after w.ensures.1)
+    (numbers _ (ap refused_with c.number-refusal.ensures ∙ ap write_numbers (sym c.in-Refused.is) ∙ w.ensures.0), after _ w.ensures.1)
