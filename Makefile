@@ -7,7 +7,7 @@
 # make install    libraries, header, pkg-config file, both programs and man pages below PREFIX
 #                 (DESTDIR is put before it)
 # make uninstall  removes these
-# make clean      removes target/
+# make clean      removes target/ and what rt made and kept, crates/*/out/
 # Nothing is fetched.
 
 # The header is the one place of the version.
@@ -31,11 +31,12 @@ CFLAGS = -O2
 LDFLAGS =
 INSTALL = install
 
-LIBRARY = target/staticlib/libwwvb.a
+# rt builds in a crate's folder, into out/. The shared library is made elsewhere.
+LIBRARY = crates/wwvb/out/libwwvb.a
 SHARED = target/shared/libwwvb.so.$(VERSION)
 PROGRAMS = station shiftbook
-BINARIES = $(PROGRAMS:%=target/bin/%)
-SOURCES := $(shell find crates -name '*.rt' -o -name '*.antt') crates.txt
+BINARIES = $(foreach it,$(PROGRAMS),crates/$(it)/out/$(it))
+SOURCES := $(shell find crates -path 'crates/*/out' -prune -o \( -name '*.rt' -o -name '*.antt' \) -print) crates.txt
 
 all: $(LIBRARY) $(SHARED) $(BINARIES)
 
@@ -57,20 +58,21 @@ need-install:
 
 $(LIBRARY): $(SOURCES)
 	$(need-rt)
-	rt staticlib wwvb
+	cd crates/wwvb && rt lib
 	@touch $@
 
 $(BINARIES): $(SOURCES)
 	$(need-rt)
-	rt check $(@F)
+	cd crates/$(@F) && rt run </dev/null >/dev/null
 	@touch $@
 
 # The archive's code is position-independent. It needs no other library, and the link sees that.
+# The other two names are copies: rt takes no link in a checkout.
 $(SHARED): $(LIBRARY) include/wwvb.h | need-cc
 	@mkdir -p $(@D)
 	$(CC) -shared -nostdlib $(LDFLAGS) -Wl,-soname,libwwvb.so.$(MAJOR) -Wl,--no-undefined \
 	    -Wl,--whole-archive $(LIBRARY) -Wl,--no-whole-archive -o $@
-	@ln -sf $(@F) $(@D)/libwwvb.so.$(MAJOR) && ln -sf libwwvb.so.$(MAJOR) $(@D)/libwwvb.so
+	@cp $@ $(@D)/libwwvb.so.$(MAJOR) && cp $@ $(@D)/libwwvb.so
 
 quick:
 	$(need-rt)
@@ -111,7 +113,7 @@ uninstall:
 	    '$(DESTDIR)$(PKGCONFIGDIR)/wwvb.pc' '$(DESTDIR)$(MANDIR)/man3/wwvb.3'
 
 clean:
-	rm -rf target
+	rm -rf target crates/*/out
 
 # One rt at a time: it uses the processors itself.
 .NOTPARALLEL:
