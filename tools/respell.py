@@ -1,7 +1,7 @@
 #!/usr/bin/env python3
 """Brings the repository's own definitions and lemmas to the spelling of today's Rattle: words in snake case.
 
-usage: python3 tools/respell.py        at the top of the repository, once, after /opt/rattle/port/port.py
+usage: python3 tools/respell.py        at the top of the repository, once, after the kit's port.py
 
 Every name that specs/ or proofs/ declare in camel case with a small first letter is respelled, in code, definitions, proofs and
 edits of crates/. A lemma that would then share its name with a definition gets `_lem`. Types, modules, functions of src/ and
