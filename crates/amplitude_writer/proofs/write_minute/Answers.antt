@@ -39,7 +39,8 @@ returns-then-not-is_ut1 c =
     let schedule : Schedule = schedule_of c.args.plan c.args.messages.now in
     let legal : legal_schedule schedule ≡ true = both-legal schedule (sym c.is_legal.ensures ∙ c.if-not-is_legal.false)
     (sym c.is_legal-2.ensures ∙ c.if-not-is_legal-2.false) in
-    let ut1 : c.is_ut1.result ≡ legal_ut1 c.args.sign c.args.tenths = subst (λ (z : ℤ). c.is_ut1.result ≡ legal_ut1 z c.args.tenths) (to_z-of_z c.ranges.sign) c.is_ut1.ensures in
+    let ut1 : c.is_ut1.result ≡ legal_ut1 c.args.sign c.args.tenths =
+    subst (λ (z : ℤ). c.is_ut1.result ≡ legal_ut1 z c.args.tenths) (to_z-of_z c.ranges.sign) c.is_ut1.ensures in
     no-18 schedule c.args.minute c.args.sign c.args.tenths c.args.out.now
     legal c.if-minute-ge-MINUTES.false
     (sym ut1 ∙ c.if-not-is_ut1.true)
@@ -49,18 +50,24 @@ returns-then-out-needed c =
     let schedule : Schedule = schedule_of c.args.plan c.args.messages.now in
     let legal : legal_schedule schedule ≡ true = both-legal schedule (sym c.is_legal.ensures ∙ c.if-not-is_legal.false)
     (sym c.is_legal-2.ensures ∙ c.if-not-is_legal-2.false) in
-    let ut1 : c.is_ut1.result ≡ legal_ut1 c.args.sign c.args.tenths = subst (λ (z : ℤ). c.is_ut1.result ≡ legal_ut1 z c.args.tenths) (to_z-of_z c.ranges.sign) c.is_ut1.ensures in
+    let ut1 : c.is_ut1.result ≡ legal_ut1 c.args.sign c.args.tenths =
+    subst (λ (z : ℤ). c.is_ut1.result ≡ legal_ut1 z c.args.tenths) (to_z-of_z c.ranges.sign) c.is_ut1.ensures in
     let legal-ut1 : legal_ut1 c.args.sign c.args.tenths ≡ true = sym ut1 ∙ c.if-not-is_ut1.false in
-    let values : c.values_at-values.result ≡ values_at c.args.plan c.args.minute c.args.sign c.args.tenths = subst (λ (z : ℤ). c.values_at-values.result ≡ values_at c.args.plan c.args.minute z c.args.tenths) (to_z-of_z c.ranges.sign) c.values_at-values.ensures in
+    let values : c.values_at-values.result ≡ values_at c.args.plan c.args.minute c.args.sign c.args.tenths =
+    subst (λ (z : ℤ). c.values_at-values.result ≡ values_at c.args.plan c.args.minute z c.args.tenths)
+    (to_z-of_z c.ranges.sign) c.values_at-values.ensures in
     no-4 schedule c.args.minute c.args.sign c.args.tenths c.args.out.now
     legal c.if-minute-ge-MINUTES.false
     legal-ut1 c.values_at-values.result values c.if-out-needed.true
 
 pub put-requires : goal.put-requires
 put-requires c =
-    let ut1 : c.is_ut1.result ≡ legal_ut1 c.args.sign c.args.tenths = subst (λ (z : ℤ). c.is_ut1.result ≡ legal_ut1 z c.args.tenths) (to_z-of_z c.ranges.sign) c.is_ut1.ensures in
+    let ut1 : c.is_ut1.result ≡ legal_ut1 c.args.sign c.args.tenths =
+    subst (λ (z : ℤ). c.is_ut1.result ≡ legal_ut1 z c.args.tenths) (to_z-of_z c.ranges.sign) c.is_ut1.ensures in
     let legal-ut1 : legal_ut1 c.args.sign c.args.tenths ≡ true = sym ut1 ∙ c.if-not-is_ut1.false in
-    let values : c.values_at-values.result ≡ values_at c.args.plan c.args.minute c.args.sign c.args.tenths = subst (λ (z : ℤ). c.values_at-values.result ≡ values_at c.args.plan c.args.minute z c.args.tenths) (to_z-of_z c.ranges.sign) c.values_at-values.ensures in
+    let values : c.values_at-values.result ≡ values_at c.args.plan c.args.minute c.args.sign c.args.tenths =
+    subst (λ (z : ℤ). c.values_at-values.result ≡ values_at c.args.plan c.args.minute z c.args.tenths)
+    (to_z-of_z c.ranges.sign) c.values_at-values.ensures in
     let early = c.if-minute-ge-MINUTES.false in (
       subst (λ (r : Values). legal_values r ≡ true) (sym values)
           (sent-legal c.args.plan c.args.minute c.args.sign c.args.tenths early legal-ut1),
@@ -72,9 +79,12 @@ returns c =
     let schedule : Schedule = schedule_of c.args.plan c.args.messages.now in
     let legal : legal_schedule schedule ≡ true = both-legal schedule (sym c.is_legal.ensures ∙ c.if-not-is_legal.false)
     (sym c.is_legal-2.ensures ∙ c.if-not-is_legal-2.false) in
-    let ut1 : c.is_ut1.result ≡ legal_ut1 c.args.sign c.args.tenths = subst (λ (z : ℤ). c.is_ut1.result ≡ legal_ut1 z c.args.tenths) (to_z-of_z c.ranges.sign) c.is_ut1.ensures in
+    let ut1 : c.is_ut1.result ≡ legal_ut1 c.args.sign c.args.tenths =
+    subst (λ (z : ℤ). c.is_ut1.result ≡ legal_ut1 z c.args.tenths) (to_z-of_z c.ranges.sign) c.is_ut1.ensures in
     let legal-ut1 : legal_ut1 c.args.sign c.args.tenths ≡ true = sym ut1 ∙ c.if-not-is_ut1.false in
-    let values : c.values_at-values.result ≡ values_at c.args.plan c.args.minute c.args.sign c.args.tenths = subst (λ (z : ℤ). c.values_at-values.result ≡ values_at c.args.plan c.args.minute z c.args.tenths) (to_z-of_z c.ranges.sign) c.values_at-values.ensures in
+    let values : c.values_at-values.result ≡ values_at c.args.plan c.args.minute c.args.sign c.args.tenths =
+    subst (λ (z : ℤ). c.values_at-values.result ≡ values_at c.args.plan c.args.minute z c.args.tenths)
+    (to_z-of_z c.ranges.sign) c.values_at-values.ensures in
     all_yes schedule c.args.minute c.args.sign c.args.tenths c.args.out.now
     legal
     c.if-minute-ge-MINUTES.false

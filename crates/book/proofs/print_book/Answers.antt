@@ -19,21 +19,27 @@ returns-then-input-gt-BOOK_LIMIT c =
 pub slice_bounds-print_recording-end : goal.slice_bounds-print_recording-end
 slice_bounds-print_recording-end c =
     let input : List ℕ = c.args.input.now in
-    let front : take c.gather_bits-count.result c.gather_bits-count.new.text ≡ bits_in input = bits-front input c.gather_bits-count.new.text c.gather_bits-count.result c.gather_bits-count.ensures.0 c.gather_bits-count.ensures.1 in
+    let front : take c.gather_bits-count.result c.gather_bits-count.new.text ≡ bits_in input =
+    bits-front input c.gather_bits-count.new.text c.gather_bits-count.result c.gather_bits-count.ensures.0 c.gather_bits-count.ensures.1
+    in
     let many : c.gather_bits-count.result ≡ length (take c.gather_bits-count.result c.gather_bits-count.new.text) = rw front c.gather_bits-count.ensures.0 in
     omega (arith, many, length-take c.gather_bits-count.result c.gather_bits-count.new.text)
 
 pub slice_bounds-print_recording-end-2 : goal.slice_bounds-print_recording-end-2
 slice_bounds-print_recording-end-2 c =
     let input : List ℕ = c.args.input.now in
-    let front : take c.gather_bits-count.result c.gather_bits-count.new.text ≡ bits_in input = bits-front input c.gather_bits-count.new.text c.gather_bits-count.result c.gather_bits-count.ensures.0 c.gather_bits-count.ensures.1 in
+    let front : take c.gather_bits-count.result c.gather_bits-count.new.text ≡ bits_in input =
+    bits-front input c.gather_bits-count.new.text c.gather_bits-count.result c.gather_bits-count.ensures.0 c.gather_bits-count.ensures.1
+    in
     let many : c.gather_bits-count.result ≡ length (take c.gather_bits-count.result c.gather_bits-count.new.text) = rw front c.gather_bits-count.ensures.0 in
     many
 
 pub print_recording-requires : goal.print_recording-requires
 print_recording-requires c =
     let input : List ℕ = c.args.input.now in
-    let front : take c.gather_bits-count.result c.gather_bits-count.new.text ≡ bits_in input = bits-front input c.gather_bits-count.new.text c.gather_bits-count.result c.gather_bits-count.ensures.0 c.gather_bits-count.ensures.1 in
+    let front : take c.gather_bits-count.result c.gather_bits-count.new.text ≡ bits_in input =
+    bits-front input c.gather_bits-count.new.text c.gather_bits-count.result c.gather_bits-count.ensures.0 c.gather_bits-count.ensures.1
+    in
     rw front (omega (arith, bits-few input))
 
 pub returns : goal.returns

@@ -22,9 +22,12 @@ pub overflow_add-result : goal.overflow_add-result
 overflow_add-result c =
     let bits : List ℕ = c.args.bits.now in
     let rest : List ℕ = drop c.loop-used.used bits in
-    let got : Part c.loop-used.due rest c.loop-used.space c.read_from-part.new.entries c.read_from-part.result = part-read c.loop-used.due rest _ c.loop-used.space c.read_from-part.new.entries c.read_from-part.result c.loop-used.invariant.2 (tail bits c.loop-used.used)
+    let got : Part c.loop-used.due rest c.loop-used.space c.read_from-part.new.entries c.read_from-part.result =
+    part-read c.loop-used.due rest _ c.loop-used.space c.read_from-part.new.entries c.read_from-part.result c.loop-used.invariant.2
+    (tail bits c.loop-used.used)
     c.read_from-part.ensures.0 c.read_from-part.ensures.1 in
-    let few : (c.read_from-part.result.entries ≤ c.read_from-part.result.used) × (c.loop-used.used + c.read_from-part.result.used ≤ length bits) = (let s = sized 10 c.loop-used.due rest in
+    let few : (c.read_from-part.result.entries ≤ c.read_from-part.result.used)
+    × (c.loop-used.used + c.read_from-part.result.used ≤ length bits) = (let s = sized 10 c.loop-used.due rest in
     (omega (arith, got.entries, got.used, s.long), omega (arith, got.used, s.within, length-drop c.loop-used.used bits, c.loop-used.invariant.0))) in
     omega (arith, few)
 
@@ -32,7 +35,9 @@ pub returns-in-Complete : goal.returns-in-Complete
 returns-in-Complete c =
     let bits : List ℕ = c.args.bits.now in
     let rest : List ℕ = drop c.loop-used.used bits in
-    let got : Part c.loop-used.due rest c.loop-used.space c.read_from-part.new.entries c.read_from-part.result = part-read c.loop-used.due rest _ c.loop-used.space c.read_from-part.new.entries c.read_from-part.result c.loop-used.invariant.2 (tail bits c.loop-used.used)
+    let got : Part c.loop-used.due rest c.loop-used.space c.read_from-part.new.entries c.read_from-part.result =
+    part-read c.loop-used.due rest _ c.loop-used.space c.read_from-part.new.entries c.read_from-part.result c.loop-used.invariant.2
+    (tail bits c.loop-used.used)
     c.read_from-part.ensures.0 c.read_from-part.ensures.1 in
     counted-complete c.loop-used.count c.loop-used.due rest _ _ c.read_from-part.result got (read_all bits) c.loop-used.invariant.3
     c.in-Complete.is
@@ -41,7 +46,9 @@ pub returns-then-part-lt-PART_ENTRIES : goal.returns-then-part-lt-PART_ENTRIES
 returns-then-part-lt-PART_ENTRIES c =
     let bits : List ℕ = c.args.bits.now in
     let rest : List ℕ = drop c.loop-used.used bits in
-    let got : Part c.loop-used.due rest c.loop-used.space c.read_from-part.new.entries c.read_from-part.result = part-read c.loop-used.due rest _ c.loop-used.space c.read_from-part.new.entries c.read_from-part.result c.loop-used.invariant.2 (tail bits c.loop-used.used)
+    let got : Part c.loop-used.due rest c.loop-used.space c.read_from-part.new.entries c.read_from-part.result =
+    part-read c.loop-used.due rest _ c.loop-used.space c.read_from-part.new.entries c.read_from-part.result c.loop-used.invariant.2
+    (tail bits c.loop-used.used)
     c.read_from-part.ensures.0 c.read_from-part.ensures.1 in
     counted-refusal c.loop-used.count c.loop-used.due rest _ _ c.read_from-part.result got (read_all bits) c.loop-used.invariant.3 _
     c.in-Refused.is (omega arith)
@@ -50,9 +57,12 @@ pub overflow_add-count : goal.overflow_add-count
 overflow_add-count c =
     let bits : List ℕ = c.args.bits.now in
     let rest : List ℕ = drop c.loop-used.used bits in
-    let got : Part c.loop-used.due rest c.loop-used.space c.read_from-part.new.entries c.read_from-part.result = part-read c.loop-used.due rest _ c.loop-used.space c.read_from-part.new.entries c.read_from-part.result c.loop-used.invariant.2 (tail bits c.loop-used.used)
+    let got : Part c.loop-used.due rest c.loop-used.space c.read_from-part.new.entries c.read_from-part.result =
+    part-read c.loop-used.due rest _ c.loop-used.space c.read_from-part.new.entries c.read_from-part.result c.loop-used.invariant.2
+    (tail bits c.loop-used.used)
     c.read_from-part.ensures.0 c.read_from-part.ensures.1 in
-    let few : (c.read_from-part.result.entries ≤ c.read_from-part.result.used) × (c.loop-used.used + c.read_from-part.result.used ≤ length bits) = (let s = sized 10 c.loop-used.due rest in
+    let few : (c.read_from-part.result.entries ≤ c.read_from-part.result.used)
+    × (c.loop-used.used + c.read_from-part.result.used ≤ length bits) = (let s = sized 10 c.loop-used.due rest in
     (omega (arith, got.entries, got.used, s.long), omega (arith, got.used, s.within, length-drop c.loop-used.used bits, c.loop-used.invariant.0))) in
     omega (arith, few)
 
@@ -60,9 +70,12 @@ pub overflow_add-used : goal.overflow_add-used
 overflow_add-used c =
     let bits : List ℕ = c.args.bits.now in
     let rest : List ℕ = drop c.loop-used.used bits in
-    let got : Part c.loop-used.due rest c.loop-used.space c.read_from-part.new.entries c.read_from-part.result = part-read c.loop-used.due rest _ c.loop-used.space c.read_from-part.new.entries c.read_from-part.result c.loop-used.invariant.2 (tail bits c.loop-used.used)
+    let got : Part c.loop-used.due rest c.loop-used.space c.read_from-part.new.entries c.read_from-part.result =
+    part-read c.loop-used.due rest _ c.loop-used.space c.read_from-part.new.entries c.read_from-part.result c.loop-used.invariant.2
+    (tail bits c.loop-used.used)
     c.read_from-part.ensures.0 c.read_from-part.ensures.1 in
-    let few : (c.read_from-part.result.entries ≤ c.read_from-part.result.used) × (c.loop-used.used + c.read_from-part.result.used ≤ length bits) = (let s = sized 10 c.loop-used.due rest in
+    let few : (c.read_from-part.result.entries ≤ c.read_from-part.result.used)
+    × (c.loop-used.used + c.read_from-part.result.used ≤ length bits) = (let s = sized 10 c.loop-used.due rest in
     (omega (arith, got.entries, got.used, s.long), omega (arith, got.used, s.within, length-drop c.loop-used.used bits, c.loop-used.invariant.0))) in
     omega (arith, few)
 
@@ -70,11 +83,15 @@ pub loop-used-smaller : goal.loop-used-smaller
 loop-used-smaller c =
     let bits : List ℕ = c.args.bits.now in
     let rest : List ℕ = drop c.loop-used.used bits in
-    let got : Part c.loop-used.due rest c.loop-used.space c.read_from-part.new.entries c.read_from-part.result = part-read c.loop-used.due rest _ c.loop-used.space c.read_from-part.new.entries c.read_from-part.result c.loop-used.invariant.2 (tail bits c.loop-used.used)
+    let got : Part c.loop-used.due rest c.loop-used.space c.read_from-part.new.entries c.read_from-part.result =
+    part-read c.loop-used.due rest _ c.loop-used.space c.read_from-part.new.entries c.read_from-part.result c.loop-used.invariant.2
+    (tail bits c.loop-used.used)
     c.read_from-part.ensures.0 c.read_from-part.ensures.1 in
-    let few : (c.read_from-part.result.entries ≤ c.read_from-part.result.used) × (c.loop-used.used + c.read_from-part.result.used ≤ length bits) = (let s = sized 10 c.loop-used.due rest in
+    let few : (c.read_from-part.result.entries ≤ c.read_from-part.result.used)
+    × (c.loop-used.used + c.read_from-part.result.used ≤ length bits) = (let s = sized 10 c.loop-used.due rest in
     (omega (arith, got.entries, got.used, s.long), omega (arith, got.used, s.within, length-drop c.loop-used.used bits, c.loop-used.invariant.0))) in
-    let full : (part c.loop-used.due rest).refusal ≡ 5 = out-of-space c.loop-used.count c.loop-used.due rest _ _ c.read_from-part.result got (read_all bits) c.loop-used.invariant.3 _
+    let full : (part c.loop-used.due rest).refusal ≡ 5 =
+    out-of-space c.loop-used.count c.loop-used.due rest _ _ c.read_from-part.result got (read_all bits) c.loop-used.invariant.3 _
     c.in-Refused.is (omega arith) in
     let more : 0 < c.read_from-part.result.used = (let s = sized 10 c.loop-used.due rest in omega (arith, got.used, s.long, (s.full full).0)) in
     omega (arith, few, more)
@@ -83,12 +100,18 @@ pub loop-used-preserved : goal.loop-used-preserved
 loop-used-preserved c =
     let bits : List ℕ = c.args.bits.now in
     let rest : List ℕ = drop c.loop-used.used bits in
-    let got : Part c.loop-used.due rest c.loop-used.space c.read_from-part.new.entries c.read_from-part.result = part-read c.loop-used.due rest _ c.loop-used.space c.read_from-part.new.entries c.read_from-part.result c.loop-used.invariant.2 (tail bits c.loop-used.used)
+    let got : Part c.loop-used.due rest c.loop-used.space c.read_from-part.new.entries c.read_from-part.result =
+    part-read c.loop-used.due rest _ c.loop-used.space c.read_from-part.new.entries c.read_from-part.result c.loop-used.invariant.2
+    (tail bits c.loop-used.used)
     c.read_from-part.ensures.0 c.read_from-part.ensures.1 in
-    let few : (c.read_from-part.result.entries ≤ c.read_from-part.result.used) × (c.loop-used.used + c.read_from-part.result.used ≤ length bits) = (let s = sized 10 c.loop-used.due rest in
+    let few : (c.read_from-part.result.entries ≤ c.read_from-part.result.used)
+    × (c.loop-used.used + c.read_from-part.result.used ≤ length bits) = (let s = sized 10 c.loop-used.due rest in
     (omega (arith, got.entries, got.used, s.long), omega (arith, got.used, s.within, length-drop c.loop-used.used bits, c.loop-used.invariant.0))) in
-    let same-space : length c.read_from-part.new.entries ≡ 180 = space-kept c.loop-used.due rest c.loop-used.space c.read_from-part.new.entries c.read_from-part.result got c.loop-used.invariant.2 in
-    let full : (part c.loop-used.due rest).refusal ≡ 5 = out-of-space c.loop-used.count c.loop-used.due rest _ _ c.read_from-part.result got (read_all bits) c.loop-used.invariant.3 _
+    let same-space : length c.read_from-part.new.entries ≡ 180 =
+    space-kept c.loop-used.due rest c.loop-used.space c.read_from-part.new.entries c.read_from-part.result got c.loop-used.invariant.2
+    in
+    let full : (part c.loop-used.due rest).refusal ≡ 5 =
+    out-of-space c.loop-used.count c.loop-used.due rest _ _ c.read_from-part.result got (read_all bits) c.loop-used.invariant.3 _
     c.in-Refused.is (omega arith) in (
       omega (arith, few),
       omega (arith, few),

@@ -49,8 +49,12 @@ put_page-rest-requires c =
     let so_far : Printing done c.loop-used.due rest (entries_of bits) = c.loop-used.invariant.3 in
     let put : Put (pages_from done 1 (map line (entries_of bits))) buffer c.loop-used.out c.loop-used.at = c.loop-used.invariant.4 in
     let some : (left : c.loop-used.used < length bits) → 0 < length rest = λ left. omega (arith, length-drop c.loop-used.used bits) in
-    let next-within : (left : c.loop-used.used < length bits) → done + 1 ≤ page_count (length (entries_of bits)) = λ left. page-within done c.loop-used.due rest (entries_of bits) so_far (some left) in
-    let room : (left : c.loop-used.used < length bits) → 2184 ≤ length (take (length c.loop-used.out - c.loop-used.at) (drop c.loop-used.at c.loop-used.out)) = λ left. next-room done c.loop-used.at bits buffer c.loop-used.out c.requires.1 (next-within left) c.loop-used.invariant.2 put in
+    let next-within : (left : c.loop-used.used < length bits)
+    → done + 1 ≤ page_count (length (entries_of bits)) =
+    λ left. page-within done c.loop-used.due rest (entries_of bits) so_far (some left) in
+    let room : (left : c.loop-used.used < length bits)
+    → 2184 ≤ length (take (length c.loop-used.out - c.loop-used.at) (drop c.loop-used.at c.loop-used.out)) =
+    λ left. next-room done c.loop-used.at bits buffer c.loop-used.out c.requires.1 (next-within left) c.loop-used.invariant.2 put in
     let left : c.loop-used.used < length bits = omega arith in
     (ap (λ (f : List ℕ). (read_on c.loop-used.due f).refusal) (tail bits c.loop-used.used) ∙ so_far.going.accepted, room (omega arith))
 
@@ -65,7 +69,9 @@ overflow_add-used c =
     let after : RestAfter 50 c.loop-used.due rest c.put_page-rest.result = subst (RestAfter 50 c.loop-used.due rest)
     (sym (c.put_page-rest.ensures.0 ∙ ap (rest_after c.loop-used.due) (tail bits c.loop-used.used)))
     (rest-after c.loop-used.due rest so_far.going.accepted) in
-    let bits_left : (c.loop-used.used + c.put_page-rest.result.used ≤ length bits) × (0 < c.put_page-rest.result.used) = (omega (arith, after.within, length-drop c.loop-used.used bits, c.loop-used.invariant.0), after.some (omega arith) (some left)) in
+    let bits_left : (c.loop-used.used + c.put_page-rest.result.used ≤ length bits)
+    × (0 < c.put_page-rest.result.used) =
+    (omega (arith, after.within, length-drop c.loop-used.used bits, c.loop-used.invariant.0), after.some (omega arith) (some left)) in
     omega (arith, bits_left.0)
 
 pub overflow_add-at : goal.overflow_add-at
@@ -75,8 +81,12 @@ overflow_add-at c =
     let done : ℕ = c.loop-used.number - 1 in
     let so_far : Printing done c.loop-used.due rest (entries_of bits) = c.loop-used.invariant.3 in
     let some : (left : c.loop-used.used < length bits) → 0 < length rest = λ left. omega (arith, length-drop c.loop-used.used bits) in
-    let next-within : (left : c.loop-used.used < length bits) → done + 1 ≤ page_count (length (entries_of bits)) = λ left. page-within done c.loop-used.due rest (entries_of bits) so_far (some left) in
-    let small : (left : c.loop-used.used < length bits) → c.loop-used.number < 2 ^ 31 = λ left. omega (arith, number_small (done + 1) bits (next-within left), c.loop-used.invariant.1) in
+    let next-within : (left : c.loop-used.used < length bits)
+    → done + 1 ≤ page_count (length (entries_of bits)) =
+    λ left. page-within done c.loop-used.due rest (entries_of bits) so_far (some left) in
+    let small : (left : c.loop-used.used < length bits)
+    → c.loop-used.number < 2 ^ 31 =
+    λ left. omega (arith, number_small (done + 1) bits (next-within left), c.loop-used.invariant.1) in
     let left : c.loop-used.used < length bits = omega arith in
     omega (arith, small left, c.loop-used.invariant.2)
 
@@ -87,8 +97,12 @@ overflow_add-number c =
     let done : ℕ = c.loop-used.number - 1 in
     let so_far : Printing done c.loop-used.due rest (entries_of bits) = c.loop-used.invariant.3 in
     let some : (left : c.loop-used.used < length bits) → 0 < length rest = λ left. omega (arith, length-drop c.loop-used.used bits) in
-    let next-within : (left : c.loop-used.used < length bits) → done + 1 ≤ page_count (length (entries_of bits)) = λ left. page-within done c.loop-used.due rest (entries_of bits) so_far (some left) in
-    let small : (left : c.loop-used.used < length bits) → c.loop-used.number < 2 ^ 31 = λ left. omega (arith, number_small (done + 1) bits (next-within left), c.loop-used.invariant.1) in
+    let next-within : (left : c.loop-used.used < length bits)
+    → done + 1 ≤ page_count (length (entries_of bits)) =
+    λ left. page-within done c.loop-used.due rest (entries_of bits) so_far (some left) in
+    let small : (left : c.loop-used.used < length bits)
+    → c.loop-used.number < 2 ^ 31 =
+    λ left. omega (arith, number_small (done + 1) bits (next-within left), c.loop-used.invariant.1) in
     let left : c.loop-used.used < length bits = omega arith in
     omega (arith, small left)
 
@@ -103,7 +117,9 @@ loop-used-smaller c =
     let after : RestAfter 50 c.loop-used.due rest c.put_page-rest.result = subst (RestAfter 50 c.loop-used.due rest)
     (sym (c.put_page-rest.ensures.0 ∙ ap (rest_after c.loop-used.due) (tail bits c.loop-used.used)))
     (rest-after c.loop-used.due rest so_far.going.accepted) in
-    let bits_left : (c.loop-used.used + c.put_page-rest.result.used ≤ length bits) × (0 < c.put_page-rest.result.used) = (omega (arith, after.within, length-drop c.loop-used.used bits, c.loop-used.invariant.0), after.some (omega arith) (some left)) in
+    let bits_left : (c.loop-used.used + c.put_page-rest.result.used ≤ length bits)
+    × (0 < c.put_page-rest.result.used) =
+    (omega (arith, after.within, length-drop c.loop-used.used bits, c.loop-used.invariant.0), after.some (omega arith) (some left)) in
     omega (arith, bits_left)
 
 pub loop-used-preserved : goal.loop-used-preserved
@@ -115,23 +131,35 @@ loop-used-preserved c =
     let so_far : Printing done c.loop-used.due rest (entries_of bits) = c.loop-used.invariant.3 in
     let put : Put (pages_from done 1 (map line (entries_of bits))) buffer c.loop-used.out c.loop-used.at = c.loop-used.invariant.4 in
     let some : (left : c.loop-used.used < length bits) → 0 < length rest = λ left. omega (arith, length-drop c.loop-used.used bits) in
-    let next-within : (left : c.loop-used.used < length bits) → done + 1 ≤ page_count (length (entries_of bits)) = λ left. page-within done c.loop-used.due rest (entries_of bits) so_far (some left) in
-    let room : (left : c.loop-used.used < length bits) → 2184 ≤ length (take (length c.loop-used.out - c.loop-used.at) (drop c.loop-used.at c.loop-used.out)) = λ left. next-room done c.loop-used.at bits buffer c.loop-used.out c.requires.1 (next-within left) c.loop-used.invariant.2 put in
-    let small : (left : c.loop-used.used < length bits) → c.loop-used.number < 2 ^ 31 = λ left. omega (arith, number_small (done + 1) bits (next-within left), c.loop-used.invariant.1) in
+    let next-within : (left : c.loop-used.used < length bits)
+    → done + 1 ≤ page_count (length (entries_of bits)) =
+    λ left. page-within done c.loop-used.due rest (entries_of bits) so_far (some left) in
+    let room : (left : c.loop-used.used < length bits)
+    → 2184 ≤ length (take (length c.loop-used.out - c.loop-used.at) (drop c.loop-used.at c.loop-used.out)) =
+    λ left. next-room done c.loop-used.at bits buffer c.loop-used.out c.requires.1 (next-within left) c.loop-used.invariant.2 put in
+    let small : (left : c.loop-used.used < length bits)
+    → c.loop-used.number < 2 ^ 31 =
+    λ left. omega (arith, number_small (done + 1) bits (next-within left), c.loop-used.invariant.1) in
     let left : c.loop-used.used < length bits = omega arith in
     let after : RestAfter 50 c.loop-used.due rest c.put_page-rest.result = subst (RestAfter 50 c.loop-used.due rest)
     (sym (c.put_page-rest.ensures.0 ∙ ap (rest_after c.loop-used.due) (tail bits c.loop-used.used)))
     (rest-after c.loop-used.due rest so_far.going.accepted) in
-    let page-is : c.put_page-rest.new.out ≡ page c.loop-used.number (map line (page_entries c.loop-used.due rest)) ++ drop 2184 (take (length c.loop-used.out - c.loop-used.at) (drop c.loop-used.at c.loop-used.out)) = c.put_page-rest.ensures.1
+    let page-is : c.put_page-rest.new.out ≡ page c.loop-used.number (map line (page_entries c.loop-used.due rest)) ++ drop 2184
+    (take (length c.loop-used.out - c.loop-used.at) (drop c.loop-used.at c.loop-used.out)) = c.put_page-rest.ensures.1
     ∙ ap (λ (f : List ℕ). page c.loop-used.number (map line (page_entries c.loop-used.due f))
     ++ drop 2184 (take (length c.loop-used.out - c.loop-used.at) (drop c.loop-used.at c.loop-used.out))) (tail bits c.loop-used.used) in
-    let bits_left : (c.loop-used.used + c.put_page-rest.result.used ≤ length bits) × (0 < c.put_page-rest.result.used) = (omega (arith, after.within, length-drop c.loop-used.used bits, c.loop-used.invariant.0), after.some (omega arith) (some left)) in
+    let bits_left : (c.loop-used.used + c.put_page-rest.result.used ≤ length bits)
+    × (0 < c.put_page-rest.result.used) =
+    (omega (arith, after.within, length-drop c.loop-used.used bits, c.loop-used.invariant.0), after.some (omega arith) (some left)) in
     let next : done + 1 ≡ c.loop-used.number + 1 - 1 = omega (arith, c.loop-used.invariant.1) in
     let out-after : List ℕ = take c.loop-used.at c.loop-used.out
     ++ (c.put_page-rest.new.out ++ drop (length c.loop-used.out - c.loop-used.at) (drop c.loop-used.at c.loop-used.out)) in
-    let page-put : Put (pages_from (done + 1) 1 (map line (entries_of bits))) buffer out-after (c.loop-used.at + 2184) = put-next-page done c.loop-used.due rest (entries_of bits) so_far (some left) c.loop-used.number c.loop-used.at buffer c.loop-used.out _
+    let page-put : Put (pages_from (done + 1) 1 (map line (entries_of bits))) buffer out-after (c.loop-used.at + 2184) =
+    put-next-page done c.loop-used.due rest (entries_of bits) so_far
+    (some left) c.loop-used.number c.loop-used.at buffer c.loop-used.out _
     (omega (arith, c.loop-used.invariant.1)) (omega (arith, small left)) put (room left) page-is in
-    let printed : Printing (done + 1) c.put_page-rest.result.due (drop (c.loop-used.used + c.put_page-rest.result.used) bits) (entries_of bits) = printing-next done c.loop-used.due rest (entries_of bits) so_far (some left) c.put_page-rest.result _ after
+    let printed : Printing (done + 1) c.put_page-rest.result.due (drop (c.loop-used.used + c.put_page-rest.result.used) bits)
+    (entries_of bits) = printing-next done c.loop-used.due rest (entries_of bits) so_far (some left) c.put_page-rest.result _ after
     (sym (drop-drop c.put_page-rest.result.used c.loop-used.used bits)) in (
       bits_left.0,
       omega arith,

@@ -28,7 +28,9 @@ pub put_line_at-requires : goal.put_line_at-requires
 put_line_at-requires c =
     let es : List Entry = entries_in c.args.entries.now in
     let fit : Each Fits es = c.requires.2 in
-    let room : c.loop-i.i < 10 → 42 ≤ length (take (length c.loop-i.out - c.loop-i.i * 42) (drop (c.loop-i.i * 42) c.loop-i.out)) = λ h. omega (arith, rest-length c.loop-i.invariant.1, c.requires.3) in
+    let room : c.loop-i.i < 10
+    → 42 ≤ length (take (length c.loop-i.out - c.loop-i.i * 42) (drop (c.loop-i.i * 42) c.loop-i.out)) =
+    λ h. omega (arith, rest-length c.loop-i.invariant.1, c.requires.3) in
     (omega arith, c.requires.0, fit, room (omega arith))
 
 pub loop-i-preserved : goal.loop-i-preserved
@@ -36,7 +38,9 @@ loop-i-preserved c =
     let es : List Entry = entries_in c.args.entries.now in
     let few : length es ≤ 10 = count-few c.args.entries.now c.requires.1 in
     let fit : Each Fits es = c.requires.2 in
-    let room : c.loop-i.i < 10 → 42 ≤ length (take (length c.loop-i.out - c.loop-i.i * 42) (drop (c.loop-i.i * 42) c.loop-i.out)) = λ h. omega (arith, rest-length c.loop-i.invariant.1, c.requires.3) in (
+    let room : c.loop-i.i < 10
+    → 42 ≤ length (take (length c.loop-i.out - c.loop-i.i * 42) (drop (c.loop-i.i * 42) c.loop-i.out)) =
+    λ h. omega (arith, rest-length c.loop-i.invariant.1, c.requires.3) in (
       omega arith,
       put_next 10 es few fit c.loop-i.i c.args.out.now c.loop-i.out c.put_line_at.new.out
           (omega arith) c.loop-i.invariant.1 (room (omega arith)) c.put_line_at.ensures,

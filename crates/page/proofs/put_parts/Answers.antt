@@ -53,10 +53,13 @@ overflow_mul-end c =
     let bits : List ℕ = c.args.bits.now in
     let left : List ℕ = drop c.loop-i.used bits in
     let later : List ℕ = c.read_from-part.new.entries in
-    let got : Part c.loop-i.next left c.loop-i.space later c.read_from-part.result = part-read c.loop-i.next left _ c.loop-i.space later c.read_from-part.result c.loop-i.invariant.1 (tail bits c.loop-i.used)
+    let got : Part c.loop-i.next left c.loop-i.space later c.read_from-part.result =
+    part-read c.loop-i.next left _ c.loop-i.space later c.read_from-part.result c.loop-i.invariant.1 (tail bits c.loop-i.used)
     c.read_from-part.ensures.0 c.read_from-part.ensures.1 in
     let front : List ℕ = take (c.read_from-part.result.entries * 18) later in
-    let front-is : (front ≡ bytes_of (part c.loop-i.next left).entries) × (c.read_from-part.result.entries * 18 ≤ 180) = prefix-bytes c.loop-i.next left c.loop-i.space later c.read_from-part.result got in
+    let front-is : (front ≡ bytes_of (part c.loop-i.next left).entries)
+    × (c.read_from-part.result.entries * 18 ≤ 180) =
+    prefix-bytes c.loop-i.next left c.loop-i.space later c.read_from-part.result got in
     omega (arith, front-is.1)
 
 pub slice_bounds-space-end : goal.slice_bounds-space-end
@@ -64,11 +67,14 @@ slice_bounds-space-end c =
     let bits : List ℕ = c.args.bits.now in
     let left : List ℕ = drop c.loop-i.used bits in
     let later : List ℕ = c.read_from-part.new.entries in
-    let got : Part c.loop-i.next left c.loop-i.space later c.read_from-part.result = part-read c.loop-i.next left _ c.loop-i.space later c.read_from-part.result c.loop-i.invariant.1 (tail bits c.loop-i.used)
+    let got : Part c.loop-i.next left c.loop-i.space later c.read_from-part.result =
+    part-read c.loop-i.next left _ c.loop-i.space later c.read_from-part.result c.loop-i.invariant.1 (tail bits c.loop-i.used)
     c.read_from-part.ensures.0 c.read_from-part.ensures.1 in
     let same-space : length later ≡ 180 = space-kept c.loop-i.next left c.loop-i.space later c.read_from-part.result got c.loop-i.invariant.1 in
     let front : List ℕ = take (c.read_from-part.result.entries * 18) later in
-    let front-is : (front ≡ bytes_of (part c.loop-i.next left).entries) × (c.read_from-part.result.entries * 18 ≤ 180) = prefix-bytes c.loop-i.next left c.loop-i.space later c.read_from-part.result got in
+    let front-is : (front ≡ bytes_of (part c.loop-i.next left).entries)
+    × (c.read_from-part.result.entries * 18 ≤ 180) =
+    prefix-bytes c.loop-i.next left c.loop-i.space later c.read_from-part.result got in
     omega (arith, front-is.1, same-space)
 
 pub slice_bounds-put_part-end : goal.slice_bounds-put_part-end
@@ -76,12 +82,16 @@ slice_bounds-put_part-end c =
     let bits : List ℕ = c.args.bits.now in
     let left : List ℕ = drop c.loop-i.used bits in
     let later : List ℕ = c.read_from-part.new.entries in
-    let got : Part c.loop-i.next left c.loop-i.space later c.read_from-part.result = part-read c.loop-i.next left _ c.loop-i.space later c.read_from-part.result c.loop-i.invariant.1 (tail bits c.loop-i.used)
+    let got : Part c.loop-i.next left c.loop-i.space later c.read_from-part.result =
+    part-read c.loop-i.next left _ c.loop-i.space later c.read_from-part.result c.loop-i.invariant.1 (tail bits c.loop-i.used)
     c.read_from-part.ensures.0 c.read_from-part.ensures.1 in
     let same-space : length later ≡ 180 = space-kept c.loop-i.next left c.loop-i.space later c.read_from-part.result got c.loop-i.invariant.1 in
     let front : List ℕ = take (c.read_from-part.result.entries * 18) later in
-    let front-is : (front ≡ bytes_of (part c.loop-i.next left).entries) × (c.read_from-part.result.entries * 18 ≤ 180) = prefix-bytes c.loop-i.next left c.loop-i.space later c.read_from-part.result got in
-    let front_length : length front ≡ c.read_from-part.result.entries * 18 = length-take-le (c.read_from-part.result.entries * 18) later (omega (arith, front-is.1, same-space)) in
+    let front-is : (front ≡ bytes_of (part c.loop-i.next left).entries)
+    × (c.read_from-part.result.entries * 18 ≤ 180) =
+    prefix-bytes c.loop-i.next left c.loop-i.space later c.read_from-part.result got in
+    let front_length : length front ≡ c.read_from-part.result.entries * 18 =
+    length-take-le (c.read_from-part.result.entries * 18) later (omega (arith, front-is.1, same-space)) in
     sym front_length
 
 pub slice_bounds-put_part-count : goal.slice_bounds-put_part-count
@@ -112,14 +122,20 @@ put_part-requires c =
     let left : List ℕ = drop c.loop-i.used bits in
     let es : List Entry = (read_on due bits).entries in
     let put : Put (lines_text (c.loop-i.i * 10) (take (c.loop-i.i * 10) es)) buffer c.loop-i.out (c.loop-i.i * 420) = c.loop-i.invariant.3 in
-    let room : c.loop-i.i < 5 → 420 ≤ length (take (length c.loop-i.out - c.loop-i.i * 420) (drop (c.loop-i.i * 420) c.loop-i.out)) = λ h. omega (arith, rest-length put, c.requires.1) in
+    let room : c.loop-i.i < 5
+    → 420 ≤ length (take (length c.loop-i.out - c.loop-i.i * 420) (drop (c.loop-i.i * 420) c.loop-i.out)) =
+    λ h. omega (arith, rest-length put, c.requires.1) in
     let later : List ℕ = c.read_from-part.new.entries in
-    let got : Part c.loop-i.next left c.loop-i.space later c.read_from-part.result = part-read c.loop-i.next left _ c.loop-i.space later c.read_from-part.result c.loop-i.invariant.1 (tail bits c.loop-i.used)
+    let got : Part c.loop-i.next left c.loop-i.space later c.read_from-part.result =
+    part-read c.loop-i.next left _ c.loop-i.space later c.read_from-part.result c.loop-i.invariant.1 (tail bits c.loop-i.used)
     c.read_from-part.ensures.0 c.read_from-part.ensures.1 in
     let same-space : length later ≡ 180 = space-kept c.loop-i.next left c.loop-i.space later c.read_from-part.result got c.loop-i.invariant.1 in
     let front : List ℕ = take (c.read_from-part.result.entries * 18) later in
-    let front-is : (front ≡ bytes_of (part c.loop-i.next left).entries) × (c.read_from-part.result.entries * 18 ≤ 180) = prefix-bytes c.loop-i.next left c.loop-i.space later c.read_from-part.result got in
-    let front_length : length front ≡ c.read_from-part.result.entries * 18 = length-take-le (c.read_from-part.result.entries * 18) later (omega (arith, front-is.1, same-space)) in (
+    let front-is : (front ≡ bytes_of (part c.loop-i.next left).entries)
+    × (c.read_from-part.result.entries * 18 ≤ 180) =
+    prefix-bytes c.loop-i.next left c.loop-i.space later c.read_from-part.result got in
+    let front_length : length front ≡ c.read_from-part.result.entries * 18 =
+    length-take-le (c.read_from-part.result.entries * 18) later (omega (arith, front-is.1, same-space)) in (
       omega (arith, front_length),
       omega (arith, front_length, front-is.1),
       fits_in _ front front-is.0 (each_fits 10 c.loop-i.next left),
@@ -134,9 +150,11 @@ overflow_add-used c =
     let so_far : RestAfter (c.loop-i.i * 10) due bits (rest c.loop-i.used c.loop-i.next) = subst (RestAfter (c.loop-i.i * 10) due bits) (sym c.loop-i.invariant.2)
     (rest_from_lem (c.loop-i.i * 10) due bits c.requires.0) in
     let later : List ℕ = c.read_from-part.new.entries in
-    let got : Part c.loop-i.next left c.loop-i.space later c.read_from-part.result = part-read c.loop-i.next left _ c.loop-i.space later c.read_from-part.result c.loop-i.invariant.1 (tail bits c.loop-i.used)
+    let got : Part c.loop-i.next left c.loop-i.space later c.read_from-part.result =
+    part-read c.loop-i.next left _ c.loop-i.space later c.read_from-part.result c.loop-i.invariant.1 (tail bits c.loop-i.used)
     c.read_from-part.ensures.0 c.read_from-part.ensures.1 in
-    let bits_left : c.loop-i.used + c.read_from-part.result.used ≤ length bits = omega (arith, got.used, (sized 10 c.loop-i.next left).within, length-drop c.loop-i.used bits, so_far.within) in
+    let bits_left : c.loop-i.used + c.read_from-part.result.used ≤ length bits =
+    omega (arith, got.used, (sized 10 c.loop-i.next left).within, length-drop c.loop-i.used bits, so_far.within) in
     omega (arith, bits_left)
 
 pub loop-i-preserved : goal.loop-i-preserved
@@ -149,13 +167,18 @@ loop-i-preserved c =
     let so_far : RestAfter (c.loop-i.i * 10) due bits (rest c.loop-i.used c.loop-i.next) = subst (RestAfter (c.loop-i.i * 10) due bits) (sym c.loop-i.invariant.2)
     (rest_from_lem (c.loop-i.i * 10) due bits c.requires.0) in
     let put : Put (lines_text (c.loop-i.i * 10) (take (c.loop-i.i * 10) es)) buffer c.loop-i.out (c.loop-i.i * 420) = c.loop-i.invariant.3 in
-    let room : c.loop-i.i < 5 → 420 ≤ length (take (length c.loop-i.out - c.loop-i.i * 420) (drop (c.loop-i.i * 420) c.loop-i.out)) = λ h. omega (arith, rest-length put, c.requires.1) in
+    let room : c.loop-i.i < 5
+    → 420 ≤ length (take (length c.loop-i.out - c.loop-i.i * 420) (drop (c.loop-i.i * 420) c.loop-i.out)) =
+    λ h. omega (arith, rest-length put, c.requires.1) in
     let later : List ℕ = c.read_from-part.new.entries in
-    let got : Part c.loop-i.next left c.loop-i.space later c.read_from-part.result = part-read c.loop-i.next left _ c.loop-i.space later c.read_from-part.result c.loop-i.invariant.1 (tail bits c.loop-i.used)
+    let got : Part c.loop-i.next left c.loop-i.space later c.read_from-part.result =
+    part-read c.loop-i.next left _ c.loop-i.space later c.read_from-part.result c.loop-i.invariant.1 (tail bits c.loop-i.used)
     c.read_from-part.ensures.0 c.read_from-part.ensures.1 in
     let same-space : length later ≡ 180 = space-kept c.loop-i.next left c.loop-i.space later c.read_from-part.result got c.loop-i.invariant.1 in
     let front : List ℕ = take (c.read_from-part.result.entries * 18) later in
-    let front-is : (front ≡ bytes_of (part c.loop-i.next left).entries) × (c.read_from-part.result.entries * 18 ≤ 180) = prefix-bytes c.loop-i.next left c.loop-i.space later c.read_from-part.result got in
+    let front-is : (front ≡ bytes_of (part c.loop-i.next left).entries)
+    × (c.read_from-part.result.entries * 18 ≤ 180) =
+    prefix-bytes c.loop-i.next left c.loop-i.space later c.read_from-part.result got in
     let i = c.loop-i.i in
     let more = rest_more (i * 10) due bits c.requires.0 10 _ _ _ _ c.loop-i.invariant.2 got.used got.due in (
       omega arith,

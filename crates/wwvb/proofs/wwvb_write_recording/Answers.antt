@@ -22,8 +22,14 @@ pub returns-in-Written : goal.returns-in-Written
 returns-in-Written c =
     let plan : ℤ → Schedule = λ z. schedule_of (plan_of c.args.kind c.args.spring c.args.autumn c.args.leap_month z c.args.notice) c.args.messages.now in
     let same : plan (to_z w32 (of_z w32 c.args.leap_sign)) ≡ plan c.args.leap_sign = ap plan (to_z-of_z c.ranges.leap_sign) in
-    let numbers : (w : WriteNumbers) → w ≡ write_result (plan (to_z w32 (of_z w32 c.args.leap_sign))) c.args.first c.args.count (length c.args.out.now) → w ≡ write_result (plan c.args.leap_sign) c.args.first c.args.count (length c.args.out.now) = λ w e. e ∙ ap (λ (p : Schedule). write_result p c.args.first c.args.count (length c.args.out.now)) same in
-    let after : (l : List ℕ) → l ≡ buffer_written (plan (to_z w32 (of_z w32 c.args.leap_sign))) c.args.first c.args.count c.args.out.now → l ≡ buffer_written (plan c.args.leap_sign) c.args.first c.args.count c.args.out.now = λ l e. e ∙ ap (λ (p : Schedule). buffer_written p c.args.first c.args.count c.args.out.now) same in
+    let numbers : (w : WriteNumbers)
+    → w ≡ write_result (plan (to_z w32 (of_z w32 c.args.leap_sign))) c.args.first c.args.count (length c.args.out.now)
+    → w ≡ write_result (plan c.args.leap_sign) c.args.first c.args.count (length c.args.out.now) = λ w e. e
+    ∙ ap (λ (p : Schedule). write_result p c.args.first c.args.count (length c.args.out.now)) same in
+    let after : (l : List ℕ) → l ≡ buffer_written
+    (plan (to_z w32 (of_z w32 c.args.leap_sign))) c.args.first c.args.count c.args.out.now
+    → l ≡ buffer_written (plan c.args.leap_sign) c.args.first c.args.count c.args.out.now = λ l e. e
+    ∙ ap (λ (p : Schedule). buffer_written p c.args.first c.args.count c.args.out.now) same in
     let w = c.write_recording-answer in
     (numbers _ (ap write_numbers (sym c.in-Written.is) ∙ w.ensures.0), after _ w.ensures.1)
 
@@ -31,7 +37,13 @@ pub returns-in-Refused : goal.returns-in-Refused
 returns-in-Refused c =
     let plan : ℤ → Schedule = λ z. schedule_of (plan_of c.args.kind c.args.spring c.args.autumn c.args.leap_month z c.args.notice) c.args.messages.now in
     let same : plan (to_z w32 (of_z w32 c.args.leap_sign)) ≡ plan c.args.leap_sign = ap plan (to_z-of_z c.ranges.leap_sign) in
-    let numbers : (w : WriteNumbers) → w ≡ write_result (plan (to_z w32 (of_z w32 c.args.leap_sign))) c.args.first c.args.count (length c.args.out.now) → w ≡ write_result (plan c.args.leap_sign) c.args.first c.args.count (length c.args.out.now) = λ w e. e ∙ ap (λ (p : Schedule). write_result p c.args.first c.args.count (length c.args.out.now)) same in
-    let after : (l : List ℕ) → l ≡ buffer_written (plan (to_z w32 (of_z w32 c.args.leap_sign))) c.args.first c.args.count c.args.out.now → l ≡ buffer_written (plan c.args.leap_sign) c.args.first c.args.count c.args.out.now = λ l e. e ∙ ap (λ (p : Schedule). buffer_written p c.args.first c.args.count c.args.out.now) same in
+    let numbers : (w : WriteNumbers)
+    → w ≡ write_result (plan (to_z w32 (of_z w32 c.args.leap_sign))) c.args.first c.args.count (length c.args.out.now)
+    → w ≡ write_result (plan c.args.leap_sign) c.args.first c.args.count (length c.args.out.now) = λ w e. e
+    ∙ ap (λ (p : Schedule). write_result p c.args.first c.args.count (length c.args.out.now)) same in
+    let after : (l : List ℕ) → l ≡ buffer_written
+    (plan (to_z w32 (of_z w32 c.args.leap_sign))) c.args.first c.args.count c.args.out.now
+    → l ≡ buffer_written (plan c.args.leap_sign) c.args.first c.args.count c.args.out.now = λ l e. e
+    ∙ ap (λ (p : Schedule). buffer_written p c.args.first c.args.count c.args.out.now) same in
     let w = c.write_recording-answer in
     (numbers _ (ap refused_with c.number-refusal.ensures ∙ ap write_numbers (sym c.in-Refused.is) ∙ w.ensures.0), after _ w.ensures.1)

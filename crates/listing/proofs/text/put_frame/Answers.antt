@@ -31,7 +31,10 @@ shape_of-out c =
     let out₀ : List ℕ = c.args.out.now in
     let ys : List ℕ = c.write_frame-count.new.out in
     let size : length f ≡ k = length-time c.args.plan c.args.minute in
-    let printed : (zs : List ℕ) → zs ≡ map glyph (take c.write_frame-count.result ys) → Put (bits_text f) out₀ (set (zs ++ drop c.write_frame-count.result ys) c.write_frame-count.result 10) (k + 1) = λ zs e. put_of (bits_text f) out₀ _ (k + 1) (k + 1) (length-bits f ∙ ap (λ (n : ℕ). n + 1) size) (omega (arith, c.requires.2)) refl
+    let printed : (zs : List ℕ) → zs ≡ map glyph (take c.write_frame-count.result ys)
+    → Put (bits_text f) out₀ (set (zs ++ drop c.write_frame-count.result ys) c.write_frame-count.result 10) (k + 1) =
+    λ zs e. put_of (bits_text f) out₀ _ (k + 1) (k + 1) (length-bits f ∙ ap (λ (n : ℕ). n + 1) size)
+    (omega (arith, c.requires.2)) refl
     (bits_put f out₀ ys zs k c.write_frame-count.result size c.write_frame-count.ensures.0 c.requires.2 c.write_frame-count.ensures.1 e) in
     put-length (printed c.print_bits.new.bits c.print_bits.ensures)
 
@@ -42,6 +45,9 @@ returns c =
     let out₀ : List ℕ = c.args.out.now in
     let ys : List ℕ = c.write_frame-count.new.out in
     let size : length f ≡ k = length-time c.args.plan c.args.minute in
-    let printed : (zs : List ℕ) → zs ≡ map glyph (take c.write_frame-count.result ys) → Put (bits_text f) out₀ (set (zs ++ drop c.write_frame-count.result ys) c.write_frame-count.result 10) (k + 1) = λ zs e. put_of (bits_text f) out₀ _ (k + 1) (k + 1) (length-bits f ∙ ap (λ (n : ℕ). n + 1) size) (omega (arith, c.requires.2)) refl
+    let printed : (zs : List ℕ) → zs ≡ map glyph (take c.write_frame-count.result ys)
+    → Put (bits_text f) out₀ (set (zs ++ drop c.write_frame-count.result ys) c.write_frame-count.result 10) (k + 1) =
+    λ zs e. put_of (bits_text f) out₀ _ (k + 1) (k + 1) (length-bits f ∙ ap (λ (n : ℕ). n + 1) size)
+    (omega (arith, c.requires.2)) refl
     (bits_put f out₀ ys zs k c.write_frame-count.result size c.write_frame-count.ensures.0 c.requires.2 c.write_frame-count.ensures.1 e) in
     (ap (λ (n : ℕ). n + 1) c.write_frame-count.ensures.0, (printed c.print_bits.new.bits c.print_bits.ensures).is)

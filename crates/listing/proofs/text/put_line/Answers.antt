@@ -15,44 +15,58 @@ use Rattle.listing.proofs.text.put_line.Goals as goal
 
 pub put_number-a-requires : goal.put_number-a-requires
 put_number-a-requires c =
-    let fits : (width c.args.minute + 1) + ((width (length_at c.args.plan c.args.minute) + 1) + (length_at c.args.plan c.args.minute + 1)) ≤ length c.args.out.now = omega (arith, c.requires.2, length-line c.args.plan c.args.minute) in
+    let fits : (width c.args.minute + 1) +
+    ((width (length_at c.args.plan c.args.minute) + 1) + (length_at c.args.plan c.args.minute + 1)) ≤ length c.args.out.now =
+    omega (arith, c.requires.2, length-line c.args.plan c.args.minute) in
     omega (arith, fits)
 
 pub slice_bounds-put_number-count : goal.slice_bounds-put_number-count
 slice_bounds-put_number-count c =
-    let fits : (width c.args.minute + 1) + ((width (length_at c.args.plan c.args.minute) + 1) + (length_at c.args.plan c.args.minute + 1)) ≤ length c.args.out.now = omega (arith, c.requires.2, length-line c.args.plan c.args.minute) in
+    let fits : (width c.args.minute + 1) +
+    ((width (length_at c.args.plan c.args.minute) + 1) + (length_at c.args.plan c.args.minute + 1)) ≤ length c.args.out.now =
+    omega (arith, c.requires.2, length-line c.args.plan c.args.minute) in
     let out₁ : List ℕ = c.put_number-a.new.out in
-    let one : Put (number_text c.args.minute 32) c.args.out.now out₁ c.put_number-a.result = put_of (number_text c.args.minute 32) c.args.out.now out₁ (width c.args.minute + 1) c.put_number-a.result
+    let one : Put (number_text c.args.minute 32) c.args.out.now out₁ c.put_number-a.result =
+    put_of (number_text c.args.minute 32) c.args.out.now out₁ (width c.args.minute + 1) c.put_number-a.result
     (length-number c.args.minute 32) (omega (arith, fits)) c.put_number-a.ensures.0 c.put_number-a.ensures.1 in
     let p : Plan = c.args.plan in
     let p = one in omega (arith, p.room, put-length p)
 
 pub slice_bounds-put_number-start : goal.slice_bounds-put_number-start
 slice_bounds-put_number-start c =
-    let fits : (width c.args.minute + 1) + ((width (length_at c.args.plan c.args.minute) + 1) + (length_at c.args.plan c.args.minute + 1)) ≤ length c.args.out.now = omega (arith, c.requires.2, length-line c.args.plan c.args.minute) in
+    let fits : (width c.args.minute + 1) +
+    ((width (length_at c.args.plan c.args.minute) + 1) + (length_at c.args.plan c.args.minute + 1)) ≤ length c.args.out.now =
+    omega (arith, c.requires.2, length-line c.args.plan c.args.minute) in
     let out₁ : List ℕ = c.put_number-a.new.out in
-    let one : Put (number_text c.args.minute 32) c.args.out.now out₁ c.put_number-a.result = put_of (number_text c.args.minute 32) c.args.out.now out₁ (width c.args.minute + 1) c.put_number-a.result
+    let one : Put (number_text c.args.minute 32) c.args.out.now out₁ c.put_number-a.result =
+    put_of (number_text c.args.minute 32) c.args.out.now out₁ (width c.args.minute + 1) c.put_number-a.result
     (length-number c.args.minute 32) (omega (arith, fits)) c.put_number-a.ensures.0 c.put_number-a.ensures.1 in
     let p : Plan = c.args.plan in
     let p = one in omega (arith, p.room, put-length p)
 
 pub put_number-requires : goal.put_number-requires
 put_number-requires c =
-    let fits : (width c.args.minute + 1) + ((width (length_at c.args.plan c.args.minute) + 1) + (length_at c.args.plan c.args.minute + 1)) ≤ length c.args.out.now = omega (arith, c.requires.2, length-line c.args.plan c.args.minute) in
+    let fits : (width c.args.minute + 1) +
+    ((width (length_at c.args.plan c.args.minute) + 1) + (length_at c.args.plan c.args.minute + 1)) ≤ length c.args.out.now =
+    omega (arith, c.requires.2, length-line c.args.plan c.args.minute) in
     let seconds : ℕ = c.length-seconds.result in
     let seconds-is : seconds ≡ length_at c.args.plan c.args.minute = c.length-seconds.ensures in
     let out₁ : List ℕ = c.put_number-a.new.out in
-    let one : Put (number_text c.args.minute 32) c.args.out.now out₁ c.put_number-a.result = put_of (number_text c.args.minute 32) c.args.out.now out₁ (width c.args.minute + 1) c.put_number-a.result
+    let one : Put (number_text c.args.minute 32) c.args.out.now out₁ c.put_number-a.result =
+    put_of (number_text c.args.minute 32) c.args.out.now out₁ (width c.args.minute + 1) c.put_number-a.result
     (length-number c.args.minute 32) (omega (arith, fits)) c.put_number-a.ensures.0 c.put_number-a.ensures.1 in
     rw (rest-length one) (omega (arith, fits, c.put_number-a.ensures.0, seconds-is, ap width seconds-is))
 
 pub overflow_add-b : goal.overflow_add-b
 overflow_add-b c =
-    let fits : (width c.args.minute + 1) + ((width (length_at c.args.plan c.args.minute) + 1) + (length_at c.args.plan c.args.minute + 1)) ≤ length c.args.out.now = omega (arith, c.requires.2, length-line c.args.plan c.args.minute) in
+    let fits : (width c.args.minute + 1) +
+    ((width (length_at c.args.plan c.args.minute) + 1) + (length_at c.args.plan c.args.minute + 1)) ≤ length c.args.out.now =
+    omega (arith, c.requires.2, length-line c.args.plan c.args.minute) in
     let seconds : ℕ = c.length-seconds.result in
     let seconds-is : seconds ≡ length_at c.args.plan c.args.minute = c.length-seconds.ensures in
     let out₁ : List ℕ = c.put_number-a.new.out in
-    let one : Put (number_text c.args.minute 32) c.args.out.now out₁ c.put_number-a.result = put_of (number_text c.args.minute 32) c.args.out.now out₁ (width c.args.minute + 1) c.put_number-a.result
+    let one : Put (number_text c.args.minute 32) c.args.out.now out₁ c.put_number-a.result =
+    put_of (number_text c.args.minute 32) c.args.out.now out₁ (width c.args.minute + 1) c.put_number-a.result
     (length-number c.args.minute 32) (omega (arith, fits)) c.put_number-a.ensures.0 c.put_number-a.ensures.1 in
     let at₂ : ℕ = c.put_number-a.result + c.put_number.result in
     let out₂ : List ℕ = take c.put_number-a.result out₁
@@ -65,11 +79,14 @@ overflow_add-b c =
 
 pub slice_bounds-put_frame-count : goal.slice_bounds-put_frame-count
 slice_bounds-put_frame-count c =
-    let fits : (width c.args.minute + 1) + ((width (length_at c.args.plan c.args.minute) + 1) + (length_at c.args.plan c.args.minute + 1)) ≤ length c.args.out.now = omega (arith, c.requires.2, length-line c.args.plan c.args.minute) in
+    let fits : (width c.args.minute + 1) +
+    ((width (length_at c.args.plan c.args.minute) + 1) + (length_at c.args.plan c.args.minute + 1)) ≤ length c.args.out.now =
+    omega (arith, c.requires.2, length-line c.args.plan c.args.minute) in
     let seconds : ℕ = c.length-seconds.result in
     let seconds-is : seconds ≡ length_at c.args.plan c.args.minute = c.length-seconds.ensures in
     let out₁ : List ℕ = c.put_number-a.new.out in
-    let one : Put (number_text c.args.minute 32) c.args.out.now out₁ c.put_number-a.result = put_of (number_text c.args.minute 32) c.args.out.now out₁ (width c.args.minute + 1) c.put_number-a.result
+    let one : Put (number_text c.args.minute 32) c.args.out.now out₁ c.put_number-a.result =
+    put_of (number_text c.args.minute 32) c.args.out.now out₁ (width c.args.minute + 1) c.put_number-a.result
     (length-number c.args.minute 32) (omega (arith, fits)) c.put_number-a.ensures.0 c.put_number-a.ensures.1 in
     let at₂ : ℕ = c.put_number-a.result + c.put_number.result in
     let out₂ : List ℕ = take c.put_number-a.result out₁
@@ -83,11 +100,14 @@ slice_bounds-put_frame-count c =
 
 pub slice_bounds-put_frame-start : goal.slice_bounds-put_frame-start
 slice_bounds-put_frame-start c =
-    let fits : (width c.args.minute + 1) + ((width (length_at c.args.plan c.args.minute) + 1) + (length_at c.args.plan c.args.minute + 1)) ≤ length c.args.out.now = omega (arith, c.requires.2, length-line c.args.plan c.args.minute) in
+    let fits : (width c.args.minute + 1) +
+    ((width (length_at c.args.plan c.args.minute) + 1) + (length_at c.args.plan c.args.minute + 1)) ≤ length c.args.out.now =
+    omega (arith, c.requires.2, length-line c.args.plan c.args.minute) in
     let seconds : ℕ = c.length-seconds.result in
     let seconds-is : seconds ≡ length_at c.args.plan c.args.minute = c.length-seconds.ensures in
     let out₁ : List ℕ = c.put_number-a.new.out in
-    let one : Put (number_text c.args.minute 32) c.args.out.now out₁ c.put_number-a.result = put_of (number_text c.args.minute 32) c.args.out.now out₁ (width c.args.minute + 1) c.put_number-a.result
+    let one : Put (number_text c.args.minute 32) c.args.out.now out₁ c.put_number-a.result =
+    put_of (number_text c.args.minute 32) c.args.out.now out₁ (width c.args.minute + 1) c.put_number-a.result
     (length-number c.args.minute 32) (omega (arith, fits)) c.put_number-a.ensures.0 c.put_number-a.ensures.1 in
     let at₂ : ℕ = c.put_number-a.result + c.put_number.result in
     let out₂ : List ℕ = take c.put_number-a.result out₁
@@ -101,11 +121,14 @@ slice_bounds-put_frame-start c =
 
 pub put_frame-requires : goal.put_frame-requires
 put_frame-requires c =
-    let fits : (width c.args.minute + 1) + ((width (length_at c.args.plan c.args.minute) + 1) + (length_at c.args.plan c.args.minute + 1)) ≤ length c.args.out.now = omega (arith, c.requires.2, length-line c.args.plan c.args.minute) in
+    let fits : (width c.args.minute + 1) +
+    ((width (length_at c.args.plan c.args.minute) + 1) + (length_at c.args.plan c.args.minute + 1)) ≤ length c.args.out.now =
+    omega (arith, c.requires.2, length-line c.args.plan c.args.minute) in
     let seconds : ℕ = c.length-seconds.result in
     let seconds-is : seconds ≡ length_at c.args.plan c.args.minute = c.length-seconds.ensures in
     let out₁ : List ℕ = c.put_number-a.new.out in
-    let one : Put (number_text c.args.minute 32) c.args.out.now out₁ c.put_number-a.result = put_of (number_text c.args.minute 32) c.args.out.now out₁ (width c.args.minute + 1) c.put_number-a.result
+    let one : Put (number_text c.args.minute 32) c.args.out.now out₁ c.put_number-a.result =
+    put_of (number_text c.args.minute 32) c.args.out.now out₁ (width c.args.minute + 1) c.put_number-a.result
     (length-number c.args.minute 32) (omega (arith, fits)) c.put_number-a.ensures.0 c.put_number-a.ensures.1 in
     let at₂ : ℕ = c.put_number-a.result + c.put_number.result in
     let out₂ : List ℕ = take c.put_number-a.result out₁
@@ -118,11 +141,14 @@ put_frame-requires c =
 
 pub overflow_add-result : goal.overflow_add-result
 overflow_add-result c =
-    let fits : (width c.args.minute + 1) + ((width (length_at c.args.plan c.args.minute) + 1) + (length_at c.args.plan c.args.minute + 1)) ≤ length c.args.out.now = omega (arith, c.requires.2, length-line c.args.plan c.args.minute) in
+    let fits : (width c.args.minute + 1) +
+    ((width (length_at c.args.plan c.args.minute) + 1) + (length_at c.args.plan c.args.minute + 1)) ≤ length c.args.out.now =
+    omega (arith, c.requires.2, length-line c.args.plan c.args.minute) in
     let seconds : ℕ = c.length-seconds.result in
     let seconds-is : seconds ≡ length_at c.args.plan c.args.minute = c.length-seconds.ensures in
     let out₁ : List ℕ = c.put_number-a.new.out in
-    let one : Put (number_text c.args.minute 32) c.args.out.now out₁ c.put_number-a.result = put_of (number_text c.args.minute 32) c.args.out.now out₁ (width c.args.minute + 1) c.put_number-a.result
+    let one : Put (number_text c.args.minute 32) c.args.out.now out₁ c.put_number-a.result =
+    put_of (number_text c.args.minute 32) c.args.out.now out₁ (width c.args.minute + 1) c.put_number-a.result
     (length-number c.args.minute 32) (omega (arith, fits)) c.put_number-a.ensures.0 c.put_number-a.ensures.1 in
     let at₂ : ℕ = c.put_number-a.result + c.put_number.result in
     let out₂ : List ℕ = take c.put_number-a.result out₁
@@ -133,7 +159,9 @@ overflow_add-result c =
     c.put_number.ensures.0 c.put_number.ensures.1) in
     let p : Plan = c.args.plan in
     let m : ℕ = c.args.minute in
-    let three : Put (line_of p m) c.args.out.now (take at₂ out₂ ++ (c.put_frame.new.out ++ drop (length out₂ - at₂) (drop at₂ out₂))) (at₂ + c.put_frame.result) = rw (← line-is p m seconds seconds-is)
+    let three : Put (line_of p m) c.args.out.now
+    (take at₂ out₂ ++ (c.put_frame.new.out ++ drop (length out₂ - at₂) (drop at₂ out₂))) (at₂ + c.put_frame.result) =
+    rw (← line-is p m seconds seconds-is)
     (put-more two
     (put_of (bits_text (frame (sent_by p m))) _ c.put_frame.new.out (length_at p m + 1) c.put_frame.result
     (length-bits (frame (sent_by p m)) ∙ ap (λ (n : ℕ). n + 1) (length-time p m))
@@ -143,11 +171,14 @@ overflow_add-result c =
 
 pub returns : goal.returns
 returns c =
-    let fits : (width c.args.minute + 1) + ((width (length_at c.args.plan c.args.minute) + 1) + (length_at c.args.plan c.args.minute + 1)) ≤ length c.args.out.now = omega (arith, c.requires.2, length-line c.args.plan c.args.minute) in
+    let fits : (width c.args.minute + 1) +
+    ((width (length_at c.args.plan c.args.minute) + 1) + (length_at c.args.plan c.args.minute + 1)) ≤ length c.args.out.now =
+    omega (arith, c.requires.2, length-line c.args.plan c.args.minute) in
     let seconds : ℕ = c.length-seconds.result in
     let seconds-is : seconds ≡ length_at c.args.plan c.args.minute = c.length-seconds.ensures in
     let out₁ : List ℕ = c.put_number-a.new.out in
-    let one : Put (number_text c.args.minute 32) c.args.out.now out₁ c.put_number-a.result = put_of (number_text c.args.minute 32) c.args.out.now out₁ (width c.args.minute + 1) c.put_number-a.result
+    let one : Put (number_text c.args.minute 32) c.args.out.now out₁ c.put_number-a.result =
+    put_of (number_text c.args.minute 32) c.args.out.now out₁ (width c.args.minute + 1) c.put_number-a.result
     (length-number c.args.minute 32) (omega (arith, fits)) c.put_number-a.ensures.0 c.put_number-a.ensures.1 in
     let at₂ : ℕ = c.put_number-a.result + c.put_number.result in
     let out₂ : List ℕ = take c.put_number-a.result out₁
@@ -158,7 +189,9 @@ returns c =
     c.put_number.ensures.0 c.put_number.ensures.1) in
     let p : Plan = c.args.plan in
     let m : ℕ = c.args.minute in
-    let three : Put (line_of p m) c.args.out.now (take at₂ out₂ ++ (c.put_frame.new.out ++ drop (length out₂ - at₂) (drop at₂ out₂))) (at₂ + c.put_frame.result) = rw (← line-is p m seconds seconds-is)
+    let three : Put (line_of p m) c.args.out.now
+    (take at₂ out₂ ++ (c.put_frame.new.out ++ drop (length out₂ - at₂) (drop at₂ out₂))) (at₂ + c.put_frame.result) =
+    rw (← line-is p m seconds seconds-is)
     (put-more two
     (put_of (bits_text (frame (sent_by p m))) _ c.put_frame.new.out (length_at p m + 1) c.put_frame.result
     (length-bits (frame (sent_by p m)) ∙ ap (λ (n : ℕ). n + 1) (length-time p m))

@@ -35,5 +35,6 @@ returns c =
     let k = c.copy in
     let p = c.put_number in
     let first = put_of refused_word b k.new.out 8 8 refl (omega arith) refl k.ensures in
-    let second = put_of (number_text n 10) _ p.new.out (width n + 1) (d.result + 1) (length-number n 10) (rw (rest-length first) (omega (arith, d.ensures))) (ap (λ (x : ℕ). x + 1) d.ensures) p.ensures.1 in
+    let second = put_of (number_text n 10) _ p.new.out (width n + 1) (d.result + 1) (length-number n 10)
+    (rw (rest-length first) (omega (arith, d.ensures))) (ap (λ (x : ℕ). x + 1) d.ensures) p.ensures.1 in
     put-done (8 + d.result + 1) (omega arith) (put-more first second)

@@ -36,8 +36,11 @@ returns-in-Written c =
     let schedule : ℤ → Schedule = λ z. schedule_of (plan_of c.args.kind c.args.spring c.args.autumn c.args.leap_month z c.args.notice) c.args.messages.now in
     let numbers_by : ℤ → ℤ → Numbers = λ z y. write_amplitude (schedule z) c.args.minute y c.args.ut1_tenths (length c.args.out.now) in
     let buffer_by : ℤ → ℤ → List ℕ = λ z y. symbols_written (schedule z) c.args.minute y c.args.ut1_tenths c.args.out.now in
-    let w = c.write_minute-answer in
-    (ap (reply_numbers 1) (by-signs numbers_by _ _ c.ranges.leap_sign c.ranges.ut1_sign (ap write_numbers (sym c.in-Written.is)) w.ensures.0), by-signs buffer_by _ _ c.ranges.leap_sign c.ranges.ut1_sign refl w.ensures.1)
+    let w = c.write_minute-answer in (
+      ap (reply_numbers 1) (by-signs numbers_by _ _ c.ranges.leap_sign c.ranges.ut1_sign
+          (ap write_numbers (sym c.in-Written.is)) w.ensures.0),
+      by-signs buffer_by _ _ c.ranges.leap_sign c.ranges.ut1_sign refl w.ensures.1,
+    )
 
 pub returns-in-Refused : goal.returns-in-Refused
 returns-in-Refused c =
