@@ -13,6 +13,7 @@ use Rattle.amplitude_rules.specs.declared.Values.{Values}
 use Rattle.amplitude_rules.proofs.Sent.{sent-legal}
 use Rattle.amplitude_writer.proofs.Answers.{no-1, no-3, no-18, no-4, all_yes}
 use Rattle.amplitude_writer.proofs.write_minute.Goals as goal
+use Rattle.amplitude_writer.proofs.write_minute.Goals.{After-values_at-values}
 
 pub returns-then-not-is_legal : goal.returns-then-not-is_legal
 returns-then-not-is_legal c =
@@ -39,54 +40,53 @@ returns-then-not-is_ut1 c =
     let schedule : Schedule = schedule_of c.args.plan c.args.messages.now in
     let legal : legal_schedule schedule ≡ true = both-legal schedule (sym c.is_legal.ensures ∙ c.if-not-is_legal.false)
     (sym c.is_legal-2.ensures ∙ c.if-not-is_legal-2.false) in
-    let ut1 : c.is_ut1.result ≡ legal_ut1 c.args.sign c.args.tenths =
-    subst (λ (z : ℤ). c.is_ut1.result ≡ legal_ut1 z c.args.tenths) (to_z-of_z c.ranges.sign) c.is_ut1.ensures in
+    let ut1 : c.is_ut1.result ≡ legal_ut1 c.args.sign c.args.tenths = subst (λ (z : ℤ). c.is_ut1.result ≡ legal_ut1 z c.args.tenths) (to_z-of_z c.ranges.sign) c.is_ut1.ensures in
     no-18 schedule c.args.minute c.args.sign c.args.tenths c.args.out.now
     legal c.if-minute-ge-MINUTES.false
     (sym ut1 ∙ c.if-not-is_ut1.true)
 
+-- what the tests have shown once the values are there; the signs as they came in
+module _ (c : After-values_at-values) where
+  abbrev schedule : Schedule
+  schedule = schedule_of c.args.plan c.args.messages.now
+
+  legal : legal_schedule schedule ≡ true
+  legal = both-legal schedule (sym c.is_legal.ensures ∙ c.if-not-is_legal.false)
+      (sym c.is_legal-2.ensures ∙ c.if-not-is_legal-2.false)
+
+  ut1 : c.is_ut1.result ≡ legal_ut1 c.args.sign c.args.tenths
+  ut1 = subst (λ (z : ℤ). c.is_ut1.result ≡ legal_ut1 z c.args.tenths) (to_z-of_z c.ranges.sign) c.is_ut1.ensures
+
+  legal-ut1 : legal_ut1 c.args.sign c.args.tenths ≡ true
+  legal-ut1 = sym ut1 ∙ c.if-not-is_ut1.false
+
+  values : c.values_at-values.result ≡ values_at c.args.plan c.args.minute c.args.sign c.args.tenths
+  values = subst (λ (z : ℤ). c.values_at-values.result ≡ values_at c.args.plan c.args.minute z c.args.tenths)
+      (to_z-of_z c.ranges.sign) c.values_at-values.ensures
+
 pub returns-then-out-needed : goal.returns-then-out-needed
 returns-then-out-needed c =
+    let d = (goal.at.returns-then-out-needed c).After-values_at-values in
     let schedule : Schedule = schedule_of c.args.plan c.args.messages.now in
-    let legal : legal_schedule schedule ≡ true = both-legal schedule (sym c.is_legal.ensures ∙ c.if-not-is_legal.false)
-    (sym c.is_legal-2.ensures ∙ c.if-not-is_legal-2.false) in
-    let ut1 : c.is_ut1.result ≡ legal_ut1 c.args.sign c.args.tenths =
-    subst (λ (z : ℤ). c.is_ut1.result ≡ legal_ut1 z c.args.tenths) (to_z-of_z c.ranges.sign) c.is_ut1.ensures in
-    let legal-ut1 : legal_ut1 c.args.sign c.args.tenths ≡ true = sym ut1 ∙ c.if-not-is_ut1.false in
-    let values : c.values_at-values.result ≡ values_at c.args.plan c.args.minute c.args.sign c.args.tenths =
-    subst (λ (z : ℤ). c.values_at-values.result ≡ values_at c.args.plan c.args.minute z c.args.tenths)
-    (to_z-of_z c.ranges.sign) c.values_at-values.ensures in
     no-4 schedule c.args.minute c.args.sign c.args.tenths c.args.out.now
-    legal c.if-minute-ge-MINUTES.false
-    legal-ut1 c.values_at-values.result values c.if-out-needed.true
+    (legal d) c.if-minute-ge-MINUTES.false
+    (legal-ut1 d) c.values_at-values.result (values d) c.if-out-needed.true
 
 pub put-requires : goal.put-requires
 put-requires c =
-    let ut1 : c.is_ut1.result ≡ legal_ut1 c.args.sign c.args.tenths =
-    subst (λ (z : ℤ). c.is_ut1.result ≡ legal_ut1 z c.args.tenths) (to_z-of_z c.ranges.sign) c.is_ut1.ensures in
-    let legal-ut1 : legal_ut1 c.args.sign c.args.tenths ≡ true = sym ut1 ∙ c.if-not-is_ut1.false in
-    let values : c.values_at-values.result ≡ values_at c.args.plan c.args.minute c.args.sign c.args.tenths =
-    subst (λ (z : ℤ). c.values_at-values.result ≡ values_at c.args.plan c.args.minute z c.args.tenths)
-    (to_z-of_z c.ranges.sign) c.values_at-values.ensures in
+    let d = (goal.at.put-requires c).After-values_at-values in
     let early = c.if-minute-ge-MINUTES.false in (
-      subst (λ (r : Values). legal_values r ≡ true) (sym values)
-          (sent-legal c.args.plan c.args.minute c.args.sign c.args.tenths early legal-ut1),
+      subst (λ (r : Values). legal_values r ≡ true) (sym (values d))
+          (sent-legal c.args.plan c.args.minute c.args.sign c.args.tenths early (legal-ut1 d)),
       c.if-out-needed.false,
     )
 
 pub returns : goal.returns
 returns c =
+    let d = (goal.at.returns c).After-values_at-values in
     let schedule : Schedule = schedule_of c.args.plan c.args.messages.now in
-    let legal : legal_schedule schedule ≡ true = both-legal schedule (sym c.is_legal.ensures ∙ c.if-not-is_legal.false)
-    (sym c.is_legal-2.ensures ∙ c.if-not-is_legal-2.false) in
-    let ut1 : c.is_ut1.result ≡ legal_ut1 c.args.sign c.args.tenths =
-    subst (λ (z : ℤ). c.is_ut1.result ≡ legal_ut1 z c.args.tenths) (to_z-of_z c.ranges.sign) c.is_ut1.ensures in
-    let legal-ut1 : legal_ut1 c.args.sign c.args.tenths ≡ true = sym ut1 ∙ c.if-not-is_ut1.false in
-    let values : c.values_at-values.result ≡ values_at c.args.plan c.args.minute c.args.sign c.args.tenths =
-    subst (λ (z : ℤ). c.values_at-values.result ≡ values_at c.args.plan c.args.minute z c.args.tenths)
-    (to_z-of_z c.ranges.sign) c.values_at-values.ensures in
     all_yes schedule c.args.minute c.args.sign c.args.tenths c.args.out.now
-    legal
+    (legal d)
     c.if-minute-ge-MINUTES.false
-    legal-ut1 c.values_at-values.result values
+    (legal-ut1 d) c.values_at-values.result (values d)
     c.if-out-needed.false c.put.new.out c.put.ensures

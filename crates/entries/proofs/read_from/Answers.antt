@@ -20,6 +20,7 @@ use Rattle.entries.specs.Answer.{progress, step_numbers}
 use Rattle.entries.proofs.Progress.{halted, Advanced, advanced, room_of, refused-step}
 use Rattle.entries.proofs.Turn.{same_back, put-length, turn, turn-due}
 use Rattle.entries.proofs.read_from.Goals as goal
+use Rattle.entries.proofs.read_from.Goals.{After-read_entry-step}
 
 pub loop-used-init : goal.loop-used-init
 unfolding read_from due_from
@@ -33,27 +34,59 @@ loop-used-init c =
       rw (sub-zero n),
     )
 
+-- after the step
+module _ (c : After-read_entry-step) where
+  abbrev bits : List ℕ
+  bits = c.args.bits.now
+
+  abbrev rest : List ℕ
+  rest = drop c.loop-used.used bits
+
+  abbrev from : ℕ
+  from = c.loop-used.count * entry_size
+
+  abbrev part : List ℕ
+  part = take (length c.loop-used.entries - from) (drop from c.loop-used.entries)
+
+  abbrev answer : Answer
+  answer = read_entry c.loop-used.next false (length part) rest
+
+  progress-is : step_numbers c.read_entry-step.result ≡ progress c.loop-used.next answer
+  progress-is = c.read_entry-step.ensures.0
+      ∙ ap (λ (f : List ℕ). progress c.loop-used.next (read_entry c.loop-used.next false (length part) f)) (tail bits c.loop-used.used)
+
+  abbrev later : List ℕ
+  later = c.read_entry-step.new.out
+
+  later-is : later ≡ (one_outcome part answer).buffer
+  later-is = c.read_entry-step.ensures.1
+      ∙ ap (λ (f : List ℕ). (one_outcome part (read_entry c.loop-used.next false (length part) f)).buffer) (tail bits c.loop-used.used)
+
+  abbrev buffer : List ℕ
+  buffer = c.args.entries.now
+
+  part_length : length part ≡ length buffer - from
+  part_length = rw (tail c.loop-used.entries from) (omega (arith, length-drop from c.loop-used.entries, c.loop-used.invariant.2))
+
 pub shape_of-entries-in-Halt : goal.shape_of-entries-in-Halt
 unfolding one_outcome
 shape_of-entries-in-Halt c =
+    let d = (goal.at.shape_of-entries-in-Halt c).After-read_entry-step in
     let bits : List ℕ = c.args.bits.now in
     let rest : List ℕ = drop c.loop-used.used bits in
     let from : ℕ = c.loop-used.count * entry_size in
     let part : List ℕ = take (length c.loop-used.entries - from) (drop from c.loop-used.entries) in
     let answer : Answer = read_entry c.loop-used.next false (length part) rest in
-    let progress-is : step_numbers c.read_entry-step.result ≡ progress c.loop-used.next answer = c.read_entry-step.ensures.0
-    ∙ ap (λ (f : List ℕ). progress c.loop-used.next (read_entry c.loop-used.next false (length part) f)) (tail bits c.loop-used.used) in
     let later : List ℕ = c.read_entry-step.new.out in
-    let later-is : later ≡ (one_outcome part answer).buffer = c.read_entry-step.ensures.1
-    ∙ ap (λ (f : List ℕ). (one_outcome part (read_entry c.loop-used.next false (length part) f)).buffer) (tail bits c.loop-used.used) in
     let question : ℕ = refusal_number c.in-Halt.refusal in
-    let refused-is : answer ≡ refused question = halted c.loop-used.next answer question (sym (ap step_numbers c.in-Halt.is) ∙ progress-is) in
-    let kept : take from c.loop-used.entries ++ (later ++ drop (length c.loop-used.entries - from) (drop from c.loop-used.entries)) ≡ c.loop-used.entries = same_back c.loop-used.entries later from (rw refused-is at later-is) in
+    let refused-is : answer ≡ refused question = halted c.loop-used.next answer question (sym (ap step_numbers c.in-Halt.is) ∙ progress-is d) in
+    let kept : take from c.loop-used.entries ++ (later ++ drop (length c.loop-used.entries - from) (drop from c.loop-used.entries)) ≡ c.loop-used.entries = same_back c.loop-used.entries later from (rw refused-is at (later-is d)) in
     ap length kept ∙ c.loop-used.invariant.2
 
 pub returns-in-Halt : goal.returns-in-Halt
 unfolding stop one_outcome
 returns-in-Halt c =
+    let d = (goal.at.returns-in-Halt c).After-read_entry-step in
     let bits : List ℕ = c.args.bits.now in
     let buffer : List ℕ = c.args.entries.now in
     let first : Due = c.args.due in
@@ -62,8 +95,7 @@ returns-in-Halt c =
     let from : ℕ = c.loop-used.count * entry_size in
     let part : List ℕ = take (length c.loop-used.entries - from) (drop from c.loop-used.entries) in
     let answer : Answer = read_entry c.loop-used.next false (length part) rest in
-    let part_length : length part ≡ length buffer - from = rw (tail c.loop-used.entries from) (omega (arith, length-drop from c.loop-used.entries, c.loop-used.invariant.2)) in
-    let free-slots : length part / entry_size ≡ slots = omega (arith, part_length, c.loop-used.invariant.1) in
+    let free-slots : length part / entry_size ≡ slots = omega (arith, part_length d, c.loop-used.invariant.1) in
     let stopped-at : (n : ℕ) (later : List ℕ) → later ≡ c.loop-used.entries → read_frames slots c.loop-used.next rest ≡ stop c.loop-used.next n → (◌≡◌ {A = Outcome} (record { count = c.loop-used.count; used = c.loop-used.used; refusal = n; buffer = later }) (read_from first buffer bits)) × (c.loop-used.next ≡ due_from first buffer bits) = (λ n later same e. (
       rw same
           (sym (resume-stop c.loop-used.count c.loop-used.used c.loop-used.entries c.loop-used.next n)
@@ -72,29 +104,24 @@ returns-in-Halt c =
       rw e at c.loop-used.invariant.4,
     )) in
     let some : 0 < length rest = omega (arith, length-drop c.loop-used.used bits) in
-    let progress-is : step_numbers c.read_entry-step.result ≡ progress c.loop-used.next answer = c.read_entry-step.ensures.0
-    ∙ ap (λ (f : List ℕ). progress c.loop-used.next (read_entry c.loop-used.next false (length part) f)) (tail bits c.loop-used.used) in
     let later : List ℕ = c.read_entry-step.new.out in
-    let later-is : later ≡ (one_outcome part answer).buffer = c.read_entry-step.ensures.1
-    ∙ ap (λ (f : List ℕ). (one_outcome part (read_entry c.loop-used.next false (length part) f)).buffer) (tail bits c.loop-used.used) in
     let question : ℕ = refusal_number c.in-Halt.refusal in
-    let refused-is : answer ≡ refused question = halted c.loop-used.next answer question (sym (ap step_numbers c.in-Halt.is) ∙ progress-is) in
-    let kept : take from c.loop-used.entries ++ (later ++ drop (length c.loop-used.entries - from) (drop from c.loop-used.entries)) ≡ c.loop-used.entries = same_back c.loop-used.entries later from (rw refused-is at later-is) in
+    let refused-is : answer ≡ refused question = halted c.loop-used.next answer question (sym (ap step_numbers c.in-Halt.is) ∙ progress-is d) in
+    let kept : take from c.loop-used.entries ++ (later ++ drop (length c.loop-used.entries - from) (drop from c.loop-used.entries)) ≡ c.loop-used.entries = same_back c.loop-used.entries later from (rw refused-is at (later-is d)) in
     stopped-at question _ kept
     (rw (← free-slots) (refused-step (length part) c.loop-used.next rest some question refused-is))
 
 pub overflow_add-used : goal.overflow_add-used
 overflow_add-used c =
+    let d = (goal.at.overflow_add-used c).After-read_entry-step in
     let bits : List ℕ = c.args.bits.now in
     let rest : List ℕ = drop c.loop-used.used bits in
     let from : ℕ = c.loop-used.count * entry_size in
     let part : List ℕ = take (length c.loop-used.entries - from) (drop from c.loop-used.entries) in
     let answer : Answer = read_entry c.loop-used.next false (length part) rest in
-    let progress-is : step_numbers c.read_entry-step.result ≡ progress c.loop-used.next answer = c.read_entry-step.ensures.0
-    ∙ ap (λ (f : List ℕ). progress c.loop-used.next (read_entry c.loop-used.next false (length part) f)) (tail bits c.loop-used.used) in
     let state : Due = Minute c.in-Advance.minute c.in-Advance.leap in
     let went : Advanced c.loop-used.next answer c.in-Advance.length state = advanced c.loop-used.next answer c.in-Advance.length state
-    (sym (ap step_numbers c.in-Advance.is) ∙ progress-is) in
+    (sym (ap step_numbers c.in-Advance.is) ∙ progress-is d) in
     let e : Entry = went.taken in
     let is : answer ≡ entry e = went.is in
     let free : entry_size ≤ length part = room_of (length part) c.loop-used.next rest e is in
@@ -105,16 +132,15 @@ overflow_add-used c =
 
 pub loop-used-smaller : goal.loop-used-smaller
 loop-used-smaller c =
+    let d = (goal.at.loop-used-smaller c).After-read_entry-step in
     let bits : List ℕ = c.args.bits.now in
     let rest : List ℕ = drop c.loop-used.used bits in
     let from : ℕ = c.loop-used.count * entry_size in
     let part : List ℕ = take (length c.loop-used.entries - from) (drop from c.loop-used.entries) in
     let answer : Answer = read_entry c.loop-used.next false (length part) rest in
-    let progress-is : step_numbers c.read_entry-step.result ≡ progress c.loop-used.next answer = c.read_entry-step.ensures.0
-    ∙ ap (λ (f : List ℕ). progress c.loop-used.next (read_entry c.loop-used.next false (length part) f)) (tail bits c.loop-used.used) in
     let state : Due = Minute c.in-Advance.minute c.in-Advance.leap in
     let went : Advanced c.loop-used.next answer c.in-Advance.length state = advanced c.loop-used.next answer c.in-Advance.length state
-    (sym (ap step_numbers c.in-Advance.is) ∙ progress-is) in
+    (sym (ap step_numbers c.in-Advance.is) ∙ progress-is d) in
     let e : Entry = went.taken in
     let is : answer ≡ entry e = went.is in
     let free : entry_size ≤ length part = room_of (length part) c.loop-used.next rest e is in
@@ -126,6 +152,7 @@ loop-used-smaller c =
 pub loop-used-preserved : goal.loop-used-preserved
 unfolding one_outcome
 loop-used-preserved c =
+    let d = (goal.at.loop-used-preserved c).After-read_entry-step in
     let bits : List ℕ = c.args.bits.now in
     let buffer : List ℕ = c.args.entries.now in
     let first : Due = c.args.due in
@@ -134,20 +161,15 @@ loop-used-preserved c =
     let from : ℕ = c.loop-used.count * entry_size in
     let part : List ℕ = take (length c.loop-used.entries - from) (drop from c.loop-used.entries) in
     let answer : Answer = read_entry c.loop-used.next false (length part) rest in
-    let part_length : length part ≡ length buffer - from = rw (tail c.loop-used.entries from) (omega (arith, length-drop from c.loop-used.entries, c.loop-used.invariant.2)) in
     let some : 0 < length rest = omega (arith, length-drop c.loop-used.used bits) in
-    let progress-is : step_numbers c.read_entry-step.result ≡ progress c.loop-used.next answer = c.read_entry-step.ensures.0
-    ∙ ap (λ (f : List ℕ). progress c.loop-used.next (read_entry c.loop-used.next false (length part) f)) (tail bits c.loop-used.used) in
     let later : List ℕ = c.read_entry-step.new.out in
-    let later-is : later ≡ (one_outcome part answer).buffer = c.read_entry-step.ensures.1
-    ∙ ap (λ (f : List ℕ). (one_outcome part (read_entry c.loop-used.next false (length part) f)).buffer) (tail bits c.loop-used.used) in
     let state : Due = Minute c.in-Advance.minute c.in-Advance.leap in
     let went : Advanced c.loop-used.next answer c.in-Advance.length state = advanced c.loop-used.next answer c.in-Advance.length state
-    (sym (ap step_numbers c.in-Advance.is) ∙ progress-is) in
+    (sym (ap step_numbers c.in-Advance.is) ∙ progress-is d) in
     let e : Entry = went.taken in
     let is : answer ≡ entry e = went.is in
     let free : entry_size ≤ length part = room_of (length part) c.loop-used.next rest e is in
-    let room : from + entry_size ≤ length c.loop-used.entries = omega (arith, free, part_length, c.loop-used.invariant.2) in
+    let room : from + entry_size ≤ length c.loop-used.entries = omega (arith, free, part_length d, c.loop-used.invariant.2) in
     let entry-is : read_next c.loop-used.next false rest ≡ entry e = sym (yes-5 c.loop-used.next false (length part) rest free) ∙ is in
     let fine : Accepted rest e = accepted c.loop-used.next false rest e entry-is in
     let left : c.loop-used.used + e.seconds ≤ length bits = omega (arith, fine.enough-left, length-drop c.loop-used.used bits, c.loop-used.invariant.0) in
@@ -156,9 +178,9 @@ loop-used-preserved c =
     let put_is : (ys : List ℕ) → ys ≡ (one_outcome part answer).buffer → ys ≡ entry_bytes e ++ drop entry_size part = (λ ys h. rw is at h) in (
       rw went.bits left,
       omega (arith, room, c.loop-used.invariant.2),
-      put-length c.loop-used.entries later from e room (put_is later later-is) ∙ c.loop-used.invariant.2,
+      put-length c.loop-used.entries later from e room (put_is later (later-is d)) ∙ c.loop-used.invariant.2,
       turn fewer c.loop-used.count c.loop-used.used c.in-Advance.length c.loop-used.next state bits c.loop-used.entries later e (read_from first buffer bits)
-          went.bits went.next some entry-is room (put_is later later-is)
+          went.bits went.next some entry-is room (put_is later (later-is d))
           (ap (λ (s : ℕ). resume c.loop-used.count c.loop-used.used c.loop-used.entries (read_frames s c.loop-used.next rest)) (sym one-slot) ∙ c.loop-used.invariant.3),
       turn-due fewer c.loop-used.used c.in-Advance.length c.loop-used.next state (due_from first buffer bits) bits e went.bits went.next
           some entry-is (rw one-slot at c.loop-used.invariant.4),

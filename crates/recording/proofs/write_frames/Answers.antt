@@ -22,7 +22,7 @@ use Rattle.sequence.proofs.Tails.{tail, tail-back, length_rest}
 use Rattle.sequence.proofs.Sums.{seconds-snoc, seconds-mono, recording-snoc, length-recording, part-more}
 use Rattle.recording.proofs.Turn.{whole}
 use Rattle.recording.proofs.write_frames.Goals as goal
-use Rattle.recording.proofs.write_frames.Goals.{then-minute-day, else-minute-day, then-minute-due, else-minute-due}
+use Rattle.recording.proofs.write_frames.Goals.{then-minute-day, else-minute-day, then-minute-due, else-minute-due, In-loop-i}
 
 -- where the next message is the one after the minute
 moved : {s : List ℕ} {m n k d k' d' : ℕ} → m ≡ n → k' ≡ k → d' ≡ d → NextIs s m k d → NextIs s n k' d'
@@ -57,115 +57,107 @@ pub overflow_add-minute : goal.overflow_add-minute
 overflow_add-minute c =
     omega (arith, c.requires.2, c.loop-i-test.true)
 
+-- in a turn
+module _ (c : In-loop-i) where
+  abbrev p : Plan
+  p = c.args.plan
+
+  abbrev s : List ℕ
+  s = c.args.messages.now
+
+  abbrev q : Schedule
+  q = schedule_of p s
+
+  legal : legal_schedule q ≡ true
+  legal = c.requires.0
+
+  abbrev m : ℕ
+  m = c.args.first
+
+  abbrev i : ℕ
+  i = c.loop-i.i
+
+  abbrev at : ℕ
+  at = c.loop-i.at
+
+  abbrev out₀ : List ℕ
+  out₀ = c.args.out.now
+
+  fits : at + length_at p (m + i) ≤ length out₀
+  fits = omega (
+    arith,
+    c.loop-i.invariant.1,
+    seconds-snoc p m i,
+    seconds-mono p m (suc i) c.args.count c.loop-i-test.true,
+    c.requires.3,
+  )
+
+  range : m + i < minute_count
+  range = omega (arith, c.requires.2, c.loop-i-test.true)
+
+  next-is : NextIs s (m + i) c.loop-i.k c.loop-i.due
+  next-is = c.loop-i.invariant.5
+
 pub day_word-word-requires-then-minute-day : goal.day_word-word-requires-then-minute-day
 day_word-word-requires-then-minute-day c =
+    let d = (goal.at.day_word-word-requires-then-minute-day c).In-loop-i in
     let p : Plan = c.args.plan in
     let s : List ℕ = c.args.messages.now in
     let q : Schedule = schedule_of p s in
-    let legal : legal_schedule q ≡ true = c.requires.0 in
-    (plan-legal q legal, omega (arith, c.requires.2, c.loop-i-test.true))
+    (plan-legal q (legal d), omega (arith, c.requires.2, c.loop-i-test.true))
 
 pub slice_bounds-write_next-count : goal.slice_bounds-write_next-count
 slice_bounds-write_next-count c =
-    let p : Plan = c.args.plan in
-    let m : ℕ = c.args.first in
-    let i : ℕ = c.loop-i.i in
-    let at : ℕ = c.loop-i.at in
-    let out₀ : List ℕ = c.args.out.now in
-    let fits : at + length_at p (m + i) ≤ length out₀ = omega (
-      arith,
-      c.loop-i.invariant.1,
-      seconds-snoc p m i,
-      seconds-mono p m (suc i) c.args.count c.loop-i-test.true,
-      c.requires.3,
-    ) in
-    omega (arith, fits, c.loop-i.invariant.2)
+    let d = (goal.at.slice_bounds-write_next-count c).In-loop-i in
+    omega (arith, fits d, c.loop-i.invariant.2)
 
 pub slice_bounds-write_next-start : goal.slice_bounds-write_next-start
 slice_bounds-write_next-start c =
-    let p : Plan = c.args.plan in
-    let m : ℕ = c.args.first in
-    let i : ℕ = c.loop-i.i in
-    let at : ℕ = c.loop-i.at in
-    let out₀ : List ℕ = c.args.out.now in
-    let fits : at + length_at p (m + i) ≤ length out₀ = omega (
-      arith,
-      c.loop-i.invariant.1,
-      seconds-snoc p m i,
-      seconds-mono p m (suc i) c.args.count c.loop-i-test.true,
-      c.requires.3,
-    ) in
-    omega (arith, fits, c.loop-i.invariant.2)
+    let d = (goal.at.slice_bounds-write_next-start c).In-loop-i in
+    omega (arith, fits d, c.loop-i.invariant.2)
 
 pub write_next-at-requires : goal.write_next-at-requires
 write_next-at-requires c =
+    let d = (goal.at.write_next-at-requires c).In-loop-i in
     let p : Plan = c.args.plan in
-    let s : List ℕ = c.args.messages.now in
-    let q : Schedule = schedule_of p s in
     let m : ℕ = c.args.first in
     let i : ℕ = c.loop-i.i in
     let at : ℕ = c.loop-i.at in
     let out : List ℕ = c.loop-i.out in
-    let out₀ : List ℕ = c.args.out.now in
-    let legal : legal_schedule q ≡ true = c.requires.0 in
-    let range : m + i < minute_count = omega (arith, c.requires.2, c.loop-i-test.true) in
-    let next-is : NextIs s (m + i) c.loop-i.k c.loop-i.due = c.loop-i.invariant.5 in
-    let fits : at + length_at p (m + i) ≤ length out₀ = omega (
-      arith,
-      c.loop-i.invariant.1,
-      seconds-snoc p m i,
-      seconds-mono p m (suc i) c.args.count c.loop-i-test.true,
-      c.requires.3,
-    ) in
     let day-now : c.if-minute-day.day ≡ (m + i) / 1440 = elim c.if-minute-day.branch [ then-minute-day w ↦ w.day-is | else-minute-day w ↦ w.day-is ∙ sym w.if-minute-day.false ] in
     let word-now : c.if-minute-day.word ≡ day_word p c.if-minute-day.day = elim c.if-minute-day.branch [ then-minute-day w ↦ w.word-is ∙ w.day_word-word-then-minute-day.ensures ∙ ap (day_word p) (sym w.day-is) | else-minute-day w ↦ w.word-is ∙ c.loop-i.invariant.4 ∙ ap (day_word p) (sym w.day-is) ] in (
-      legal,
-      range,
-      next-is,
+      (legal d),
+      (range d),
+      (next-is d),
       word-now ∙ ap (day_word p) day-now,
-      rw (tail out at) (omega (arith, fits, c.loop-i.invariant.2, length-drop at out)),
+      rw (tail out at) (omega (arith, fits d, c.loop-i.invariant.2, length-drop at out)),
     )
 
 pub overflow_add-at : goal.overflow_add-at
 overflow_add-at c =
-    let p : Plan = c.args.plan in
-    let m : ℕ = c.args.first in
-    let i : ℕ = c.loop-i.i in
-    let at : ℕ = c.loop-i.at in
-    let out₀ : List ℕ = c.args.out.now in
-    let fits : at + length_at p (m + i) ≤ length out₀ = omega (
-      arith,
-      c.loop-i.invariant.1,
-      seconds-snoc p m i,
-      seconds-mono p m (suc i) c.args.count c.loop-i-test.true,
-      c.requires.3,
-    ) in
-    omega (arith, fits, c.write_next-at.ensures.0)
+    let d = (goal.at.overflow_add-at c).In-loop-i in
+    omega (arith, fits d, c.write_next-at.ensures.0)
 
 pub overflow_add-k : goal.overflow_add-k
 overflow_add-k c =
+    let d = (goal.at.overflow_add-k c).In-loop-i in
     let p : Plan = c.args.plan in
     let s : List ℕ = c.args.messages.now in
     let q : Schedule = schedule_of p s in
     let m : ℕ = c.args.first in
     let i : ℕ = c.loop-i.i in
-    let legal : legal_schedule q ≡ true = c.requires.0 in
-    let range : m + i < minute_count = omega (arith, c.requires.2, c.loop-i-test.true) in
-    let next-is : NextIs s (m + i) c.loop-i.k c.loop-i.due = c.loop-i.invariant.5 in
-    omega (arith, c.loop-i.invariant.5.inside, index s (messages-legal q legal) (m + i) c.loop-i.k c.loop-i.due next-is range c.if-minute-due.true)
+    omega (arith, c.loop-i.invariant.5.inside, index s (messages-legal q (legal d)) (m + i) c.loop-i.k c.loop-i.due (next-is d) (range d) c.if-minute-due.true)
 
 pub next_minute-due-requires-then-minute-due : goal.next_minute-due-requires-then-minute-due
 next_minute-due-requires-then-minute-due c =
+    let d = (goal.at.next_minute-due-requires-then-minute-due c).In-loop-i in
     let p : Plan = c.args.plan in
     let s : List ℕ = c.args.messages.now in
     let q : Schedule = schedule_of p s in
     let m : ℕ = c.args.first in
-    let i : ℕ = c.loop-i.i in
-    let legal : legal_schedule q ≡ true = c.requires.0 in
-    let range : m + i < minute_count = omega (arith, c.requires.2, c.loop-i-test.true) in
-    let next-is : NextIs s (m + i) c.loop-i.k c.loop-i.due = c.loop-i.invariant.5 in (
-      whole q.plan s legal,
-      omega (arith, index s (messages-legal q legal) (m + i) c.loop-i.k c.loop-i.due next-is range c.if-minute-due.true),
+    let i : ℕ = c.loop-i.i in (
+      whole q.plan s (legal d),
+      omega (arith, index s (messages-legal q (legal d)) (m + i) c.loop-i.k c.loop-i.due (next-is d) (range d) c.if-minute-due.true),
     )
 
 pub overflow_add-i : goal.overflow_add-i
@@ -178,6 +170,7 @@ loop-i-smaller c =
 
 pub loop-i-preserved : goal.loop-i-preserved
 loop-i-preserved c =
+    let d = (goal.at.loop-i-preserved c).In-loop-i in
     let p : Plan = c.args.plan in
     let s : List ℕ = c.args.messages.now in
     let q : Schedule = schedule_of p s in
@@ -186,27 +179,17 @@ loop-i-preserved c =
     let at : ℕ = c.loop-i.at in
     let out : List ℕ = c.loop-i.out in
     let out₀ : List ℕ = c.args.out.now in
-    let legal : legal_schedule q ≡ true = c.requires.0 in
-    let range : m + i < minute_count = omega (arith, c.requires.2, c.loop-i-test.true) in
-    let next-is : NextIs s (m + i) c.loop-i.k c.loop-i.due = c.loop-i.invariant.5 in
-    let fits : at + length_at p (m + i) ≤ length out₀ = omega (
-      arith,
-      c.loop-i.invariant.1,
-      seconds-snoc p m i,
-      seconds-mono p m (suc i) c.args.count c.loop-i-test.true,
-      c.requires.3,
-    ) in
     let next : (ys : List ℕ) (n : ℕ) → n ≡ length_at p (m + i) → ys ≡ frame_of (content_at q (m + i)) ++ drop (length_at p (m + i)) (take (length out - at) (drop at out)) → take at out ++ (ys ++ drop (length out - at) (drop at out)) ≡ recording q m (i + 1) ++ drop (at + n) out₀ = λ ys n en e. tail-back out at ys
     ∙ rw (e, tail out at, add-one i, recording-snoc q m i, en)
     (part-more (recording q m i) (frame_of (content_at q (m + i))) out₀ out at (length_at p (m + i))
     (length-recording q m i ∙ sym c.loop-i.invariant.1) c.loop-i.invariant.3) in
     let sum : (n : ℕ) → n ≡ length_at p (m + i) → at + n ≡ seconds p m (i + 1) = λ n e. rw (add-one i) (omega (arith, e, c.loop-i.invariant.1, seconds-snoc p m i)) in
     let word-now : c.if-minute-day.word ≡ day_word p c.if-minute-day.day = elim c.if-minute-day.branch [ then-minute-day w ↦ w.word-is ∙ w.day_word-word-then-minute-day.ensures ∙ ap (day_word p) (sym w.day-is) | else-minute-day w ↦ w.word-is ∙ c.loop-i.invariant.4 ∙ ap (day_word p) (sym w.day-is) ] in
-    let next-now : NextIs s (m + (i + 1)) c.if-minute-due.k c.if-minute-due.due = (let ok = messages-legal q legal in
+    let next-now : NextIs s (m + (i + 1)) c.if-minute-due.k c.if-minute-due.due = (let ok = messages-legal q (legal d) in
     let a = add_assoc m i 1 in
     elim c.if-minute-due.branch [
-      | then-minute-due w ↦ moved a w.k-is w.due-is (step-on s ok (m + i) c.loop-i.k c.loop-i.due next-is range w.if-minute-due.true w.next_minute-due-then-minute-due.result w.next_minute-due-then-minute-due.ensures)
-      | else-minute-due w ↦ moved a w.k-is w.due-is (step_past s ok (m + i) c.loop-i.k c.loop-i.due next-is w.if-minute-due.false)
+      | then-minute-due w ↦ moved a w.k-is w.due-is (step-on s ok (m + i) c.loop-i.k c.loop-i.due (next-is d) (range d) w.if-minute-due.true w.next_minute-due-then-minute-due.result w.next_minute-due-then-minute-due.ensures)
+      | else-minute-due w ↦ moved a w.k-is w.due-is (step_past s ok (m + i) c.loop-i.k c.loop-i.due (next-is d) w.if-minute-due.false)
     ]) in
     let n = c.write_next-at.result in
     let e : n ≡ length_at p (m + i) = c.write_next-at.ensures.0 in
@@ -214,7 +197,7 @@ loop-i-preserved c =
     let x = sum n e in (
       omega (arith, c.loop-i-test.true),
       x,
-      ap length b ∙ length_rest (recording q m (i + 1)) out₀ (at + n) (length-recording q m (i + 1) ∙ sym x) (omega (arith, fits)),
+      ap length b ∙ length_rest (recording q m (i + 1)) out₀ (at + n) (length-recording q m (i + 1) ∙ sym x) (omega (arith, fits d)),
       b,
       word-now,
       next-now,
