@@ -2,11 +2,29 @@
 #![tactic(auto)]
 
 ghost use Rattle.std.specs.Prelude.{◌≡◌, ◌+◌, ◌*◌, ◌/◌, ◌%◌, ◌≤◌, ◌<◌, length};
-ghost use Rattle.messages.specs.Message.{legal_messages};
-ghost use Rattle.messages.specs.Bytes.{message_size, big_endian, message_at, messages_in};
+ghost use Rattle.messages.specs.Message.{legal_messages, legal_schedule};
+ghost use Rattle.messages.specs.Bytes.{message_size, big_endian, message_at, messages_in, schedule_of};
 ghost use Rattle.messages.specs.Walk.{remaining, next_minute, all_from};
 
 use calendar::Date;
+use plan::Plan;
+
+// A plan with the bytes of its messages.
+#[derive(Clone, Copy)]
+pub struct Schedule<'a> {
+    pub plan: Plan,
+    pub messages: &'a [u8],
+}
+
+impl Schedule<'_> {
+    // Question 1.
+    #[tactic(auto, unfolding(crate::specs::Message::legal_schedule))]
+    pub fn is_legal(self) -> bool
+        ensures { result ≡ legal_schedule (schedule_of self.entry.plan self.entry.messages.now) }
+    {
+        self.plan.is_legal() && is_legal(self.messages)
+    }
+}
 
 // The bytes of a message.
 const SIZE: usize = 10;
