@@ -1,31 +1,20 @@
-use mathlib.Core.Path.{refl, sym, ◌∙◌}
-use native.Mathlib.Omega.{arith}
-use lib.ListN.{get_or}
-use borrow.Author.Tests.{eq-eqb, ne_eqb}
-use Rattle.codewords.specs.CodeWords.{next_words, row_among}
-use Rattle.codewords.proofs.RowList.{row-place}
-use Rattle.codewords.proofs.Search.{search-here, search-on, search-end}
+-- `codewords::find_row` meets its contract.
+-- Assumes nothing.
+use Rattle.std.proofs.Common.{◌≡◌, sym, ap, ◌∙◌, ◌+◌, ◌-◌, arith, rules, length, drop, nat_eq, slice_range}
+use Rattle.std.specs.Option.{option_map}
+use Rattle.std.specs.List.{position_or_len}
+use Rattle.codewords.specs.CodeWords.{next_words, row_among, below}
+use Rattle.codewords.proofs.Answers.{below-from}
+use Rattle.codewords.proofs.RowList.{part-length, part-place}
 use Rattle.codewords.proofs.find_row.Goals as goal
-use Rattle.codewords.proofs.find_row.Invariants.{is}
-
-pub loop-row-init : goal.loop-row-init
-unfolding row_among is
-loop-row-init c = (c.requires.0, c.requires.1, refl)
-
-pub returns-then-words-k : goal.returns-then-words-k
-unfolding is next_words
-returns-then-words-k c =
-    let row = c.loop-row.row in
-    let a = c.args in
-    sym (search-here (is a.word) row a.end (omega arith) (eq-eqb (get_or next_words row 0) a.word (row-place next_words row (omega arith) ∙ c.if-words-k.true))) ∙ c.loop-row.invariant.2
-
-pub loop-row-preserved : goal.loop-row-preserved
-unfolding is next_words
-loop-row-preserved c =
-    let row = c.loop-row.row in
-    let a = c.args in
-    (omega arith, omega arith, sym (search-on (is a.word) row a.end (omega arith) (ne_eqb (get_or next_words row 0) a.word (λ e. c.if-words-k.false (sym (row-place next_words row (omega arith)) ∙ e)))) ∙ c.loop-row.invariant.2)
 
 pub returns : goal.returns
+unfolding next_words row_among
 returns c =
-    sym (search-end (is c.args.word) c.loop-row.row c.args.end (omega arith)) ∙ c.loop-row.invariant.2
+    let a = c.args in
+    let part = slice_range (drop 1 next_words) (a.from - 1) (a.end - 1) in
+    let n = position_or_len (λ w. nat_eq w a.word) part in
+    let e : c.map.result ≡ option_map (λ k. a.from + k) c.place_of.result = search rules in
+    let l = part-length next_words a.from a.end (omega arith) (omega arith) in
+    let h : row_among a.from a.end a.word ≡ a.from + n = part-place next_words a.from a.end (omega arith) (omega arith) a.word (omega arith) in
+    e ∙ ap (option_map (λ k. a.from + k)) c.place_of.ensures ∙ below-from a.from n (length part) a.end (omega arith) ∙ ap (below a.end) (sym h)
