@@ -1,6 +1,5 @@
 -- `decimal::fill_digits` meets its contract. The loop's invariant: the digits of rest, with what stands from place i on after them, are the digits of n.
 -- Assumes nothing.
-use Prim.Native.Nat.{◌≤◌}
 use mathlib.Core.List.{◌++◌}
 use mathlib.Core.Path.{◌≡◌}
 use lib.ListN.{length, drop}
@@ -8,8 +7,4 @@ use Rattle.decimal.specs.Decimal.{digits}
 use Rattle.decimal.proofs.fill_digits.Given as goal
 
 abbrev pub invariant-loop-i : goal.invariant-loop-i
-invariant-loop-i l =
-    (l.i ≤ length l.initial.out) × (length l.out ≡ length l.initial.out) × (digits l.i l.rest ++ drop l.i l.out ≡ digits (length l.initial.out) l.n)
-
-abbrev pub decreases-loop-i : goal.decreases-loop-i
-decreases-loop-i l = l.i
+invariant-loop-i l = digits l.i l.rest ++ drop l.i l.out ≡ digits (length l.initial.out) l.n

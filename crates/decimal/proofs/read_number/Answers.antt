@@ -1,74 +1,77 @@
 use Prim.Native.Nat.{ℕ, ◌+◌, ◌-◌, ◌*◌, ◌^◌, ◌≤◌, ◌<◌}
-use mathlib.Core.Bool.{and-false}
+use mathlib.Core.Bool.{true, and-false}
 use mathlib.Core.List.{List}
-use mathlib.Core.Path.{sym, ◌∙◌}
+use mathlib.Core.Path.{◌≡◌, sym, ◌∙◌}
 use native.Mathlib.Nat.{pow-le-pow_right}
 use native.Mathlib.Omega.{arith}
 use lib.ListN.{length, get_or}
-use borrow.Author.Tests.{lt-leb}
-use Rattle.decimal.specs.Decimal.{is_whole, is_number, number_in}
-use Rattle.decimal.proofs.Laws.{value-next, value-lt, low_byte, high_byte, digit-byte, no_number, digits-on, yes-number}
+use borrow.Author.Tests.{lt-leb, eqb-true, eqb-false}
+use Rattle.decimal.specs.Decimal.{is_digit, is_whole, is_number, number_in}
+use Rattle.decimal.proofs.Laws.{value-next, value-lt, digit-range, no_number, digits-on, yes-number}
 use Rattle.decimal.proofs.read_number.Goals as goal
-use Rattle.decimal.proofs.read_number.Goals.{Else-s-i-gt-NINE}
+use Rattle.decimal.proofs.read_number.Goals.{Else-not-is_ascii_digit, then-is_empty-via-then-is_empty, then-is_empty-via-else-is_empty+then-s-gt-MAX_DIGITS}
 
--- in a turn, after both tests
-module _ (c : Else-s-i-gt-NINE) where
+-- in a turn, at a digit
+module _ (c : Else-not-is_ascii_digit) where
   abbrev s : List ℕ
   s = c.args.s.now
 
   abbrev i : ℕ
-  i = c.loop-i.i
+  i = c.loop-b.b-index
 
   abbrev v : ℕ
-  v = c.loop-i.value
+  v = c.loop-b.value
+
+  digit : is_digit (get_or s i 0) ≡ true
+  unfolding is_digit
+  digit = sym c.is_ascii_digit.ensures.value ∙ c.if-not-is_ascii_digit.false
 
   next-lt : v * 10 + (get_or s i 0 - 48) < 10 ^ (i + 1)
-  next-lt = value-lt i v (get_or s i 0) c.loop-i.invariant.1 c.if-s-i-gt-NINE.false
+  next-lt = value-lt i v (get_or s i 0) c.loop-b.invariant.0 (digit-range (get_or s i 0) digit).1
 
   fits : 10 ^ (i + 1) ≤ 10 ^ 9
   fits = pow-le-pow_right {n = 10} (omega arith) {i = i + 1} {j = 9} (omega arith)
 
-pub returns-then-s-lt1 : goal.returns-then-s-lt1
+pub returns-then-is_empty : goal.returns-then-is_empty
 unfolding number_in is_number is_whole
-returns-then-s-lt1 c = rw (lt-leb 1 (length c.args.s.now) c.if-s-lt1.true)
+returns-then-is_empty c =
+    let n = length c.args.s.now in
+    elim c.then-is_empty.branch [
+      | then-is_empty-via-then-is_empty w ↦
+          let e : n < 1 = omega (arith, eqb-true n 0 (sym c.is_empty.ensures ∙ w.if-is_empty.true)) in
+          rw (lt-leb 1 n e)
+      | then-is_empty-via-else-is_empty+then-s-gt-MAX_DIGITS w ↦
+          rw (lt-leb n 9 w.if-s-gt-MAX_DIGITS.true, and-false)
+    ]
 
-pub returns-then-s-gt-MAX_DIGITS : goal.returns-then-s-gt-MAX_DIGITS
-unfolding number_in is_number is_whole
-returns-then-s-gt-MAX_DIGITS c =
-    rw (lt-leb (length c.args.s.now) 9 c.if-s-gt-MAX_DIGITS.true, and-false)
-
-pub returns-then-s-i-lt-ZERO : goal.returns-then-s-i-lt-ZERO
-returns-then-s-i-lt-ZERO c =
-    let l = c.loop-i in
-    no_number c.args.s.now l.i (omega arith) l.invariant.3 (low_byte _ c.if-s-i-lt-ZERO.true)
-
-pub returns-then-s-i-gt-NINE : goal.returns-then-s-i-gt-NINE
-returns-then-s-i-gt-NINE c =
-    let l = c.loop-i in
-    no_number c.args.s.now l.i (omega arith) l.invariant.3 (high_byte _ c.if-s-i-gt-NINE.true)
+pub returns-then-not-is_ascii_digit : goal.returns-then-not-is_ascii_digit
+unfolding is_digit
+returns-then-not-is_ascii_digit c =
+    let l = c.loop-b in
+    no_number c.args.s.now l.b-index (omega arith) l.invariant.2
+    (sym c.is_ascii_digit.ensures.value ∙ c.if-not-is_ascii_digit.true)
 
 pub overflow_mul-value : goal.overflow_mul-value
-overflow_mul-value c =
-    omega (arith, next-lt (goal.at.overflow_mul-value c).Else-s-i-gt-NINE, fits (goal.at.overflow_mul-value c).Else-s-i-gt-NINE)
-
-pub overflow_cast-value : goal.overflow_cast-value
-overflow_cast-value c =
-    omega (arith, next-lt (goal.at.overflow_cast-value c).Else-s-i-gt-NINE, fits (goal.at.overflow_cast-value c).Else-s-i-gt-NINE)
+overflow_mul-value c = omega (arith, next-lt c, fits c)
 
 pub overflow_add-value : goal.overflow_add-value
 overflow_add-value c =
-    omega (arith, next-lt (goal.at.overflow_add-value c).Else-s-i-gt-NINE, fits (goal.at.overflow_add-value c).Else-s-i-gt-NINE)
+    let d = (goal.at.overflow_add-value c).Else-not-is_ascii_digit in
+    omega (arith, next-lt d, fits d, (digit-range _ (digit d)).0)
 
-pub loop-i-preserved : goal.loop-i-preserved
-loop-i-preserved c =
-    let l = c.loop-i in (
-      omega arith,
-      next-lt (goal.at.loop-i-preserved c).Else-s-i-gt-NINE,
-      sym (value-next (s (goal.at.loop-i-preserved c).Else-s-i-gt-NINE) (i (goal.at.loop-i-preserved c).Else-s-i-gt-NINE) (v (goal.at.loop-i-preserved c).Else-s-i-gt-NINE) (omega arith)) ∙ l.invariant.2,
-      digits-on (s (goal.at.loop-i-preserved c).Else-s-i-gt-NINE) (i (goal.at.loop-i-preserved c).Else-s-i-gt-NINE) (omega arith) l.invariant.3 (digit-byte _ c.if-s-i-lt-ZERO.false c.if-s-i-gt-NINE.false),
+pub loop-b-preserved : goal.loop-b-preserved
+loop-b-preserved c =
+    let d = (goal.at.loop-b-preserved c).Else-not-is_ascii_digit in
+    let l = c.loop-b in
+    rw c.from.ensures (
+      next-lt d,
+      sym (value-next (s d) (i d) (v d) (omega arith)) ∙ l.invariant.1,
+      digits-on (s d) (i d) (omega arith) l.invariant.2 (digit d),
     )
 
 pub returns : goal.returns
 returns c =
-    let l = c.loop-i in
-    yes-number c.args.s.now l.i l.value (omega arith) (omega arith) (omega arith) l.invariant.2 l.invariant.3
+    let l = c.loop-b in
+    let n = length c.args.s.now in
+    let some : 1 ≤ n = omega (arith, eqb-false n 0 (sym c.is_empty.ensures ∙ c.if-is_empty.false)) in
+    yes-number c.args.s.now l.b-index l.value some (omega arith) (omega arith) l.invariant.1 l.invariant.2
