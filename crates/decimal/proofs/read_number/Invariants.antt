@@ -1,8 +1,8 @@
 -- `decimal::read_number` meets its contract. The loop's invariant: the number so far, with the text that is left after it, is the number of the text.
 -- Assumes nothing.
-use Prim.Native.Nat.{◌^◌, ◌≤◌, ◌<◌}
+use Prim.Native.Nat.{◌^◌, ◌<◌}
 use mathlib.Core.Path.{◌≡◌}
-use lib.ListN.{length, drop}
+use lib.ListN.{drop}
 use Rattle.decimal.specs.Decimal.{value_from}
 use Rattle.decimal.proofs.Laws.{DigitsTo}
 use Rattle.decimal.proofs.read_number.Given as goal

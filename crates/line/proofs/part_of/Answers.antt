@@ -1,10 +1,11 @@
 -- `line::part_of` meets its contract.
 -- Assumes nothing.
-use Rattle.line.proofs.Parts.{cut-part}
+use mathlib.Core.Path.{ap}
+use Rattle.line.specs.Line.{before, part}
+use Rattle.line.proofs.Parts.{index-position}
 use Rattle.line.proofs.part_of.Goals as goal
 
 pub returns : goal.returns
+unfolding part before
 returns c =
-    let s = c.part_start-start in
-    let a = c.args in
-    cut-part a.line.now s.result a.k c.find-end.result s.ensures.1 c.find-end.ensures.value
+    rw (c.unwrap_or.ensures, c.first_space.ensures.place, index-position 32 c.behind_spaces-rest.result.now) (ap (before 32) c.behind_spaces-rest.ensures)
