@@ -1,38 +1,17 @@
--- Laws of messages as bytes: their numbers, one message after the other, and question 1 by the number of bytes.
+-- Laws of messages as bytes: one message after the other, and question 1 by the number of bytes.
 -- Assumes nothing.
-use Prim.Native.Nat.{ℕ, zero, suc, ◌+◌, ◌-◌, ◌*◌, ◌/◌, ◌%◌, ◌≤◌, ◌<◌}
+use Prim.Native.Nat.{ℕ, zero, suc, ◌+◌, ◌-◌, ◌/◌, ◌%◌, ◌≤◌, ◌<◌}
 use mathlib.Core.Bool.{Bool, true, false}
 use mathlib.Core.List.{List, [], ◌∷◌}
 use mathlib.Core.Path.{◌≡◌, refl, ◌∙◌, ap, sym}
-use native.Mathlib.Nat.{add-zero, sub-zero}
+use native.Mathlib.Nat.{sub-zero}
 use native.Mathlib.Decide.{dec_lt, dec_le}
 use native.Mathlib.Omega.{arith}
-use lib.ListN.{length, get_or}
+use lib.ListN.{length}
 use borrow.Author.Tests.{le-leb, lt-leb, eq-eqb, ne_eqb}
 use Rattle.messages.specs.Message.{message_limit, rising, legal_messages}
-use Rattle.messages.specs.Bytes.{message_size, big_endian, message_at, messages_from, message_count, messages_in}
+use Rattle.messages.specs.Bytes.{message_size, message_at, messages_from, message_count, messages_in}
 use Rattle.messages.specs.Walk.{all_from}
-
--- ---- numbers
-
-pub two_is : (s : List ℕ) (at a b : ℕ) → a ≡ get_or s at 0 → b ≡ get_or s (at + 1) 0 → a * 256 + b ≡ big_endian s at 2
-unfolding big_endian
-two_is s at a b h g = rw (h, g, add-zero at) (omega arith)
-
--- two more bytes
-more : (s : List ℕ) (at n : ℕ) → big_endian s at (suc (suc n)) ≡ big_endian s at n * 65536 + big_endian s (at + n) 2
-unfolding big_endian
-more s at n =
-    let e : at + n + 0 ≡ at + n = add-zero (at + n) in
-    let g : at + n + 1 ≡ at + suc n = omega arith in
-    rw (e, g) (omega arith)
-
-pub four_is : (s : List ℕ) (at a b : ℕ) → a ≡ big_endian s at 2 → b ≡ big_endian s (at + 2) 2 → a * 65536 + b ≡ big_endian s at 4
-four_is s at a b h g = rw (h, g) (sym (more s at 2))
-
-pub six-is : (s : List ℕ) (at a b c : ℕ) → a ≡ big_endian s at 2 → b ≡ big_endian s (at + 2) 2 → c ≡ big_endian s (at + 4) 2
-    → (a * 65536 + b) * 65536 + c ≡ big_endian s at 6
-six-is s at a b c h g k = rw (four_is s at a b h g, k) (sym (more s at 4))
 
 -- ---- one message after the other
 

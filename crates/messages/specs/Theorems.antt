@@ -1,6 +1,6 @@
 -- What holds of every plan with messages (document 02, 7), and of messages as bytes: the statements that proofs/ proves.
 -- Assumes nothing.
-use Rattle.std.specs.Prelude.{ℕ, zero, suc, ◌+◌, ◌/◌, ◌%◌, ◌^◌, ◌≤◌, ◌<◌, true, false, List, [], ◌∷◌, ◌++◌, map, ◌⊎◌, ◌↔◌, ◌≢◌, ◌≡◌, length, get_or}
+use Rattle.std.specs.Prelude.{ℕ, zero, suc, ◌/◌, ◌%◌, ◌^◌, ◌≤◌, ◌<◌, true, false, List, [], ◌∷◌, ◌++◌, map, ◌⊎◌, ◌↔◌, ◌≢◌, ◌≡◌, length, get_or}
 use Rattle.bits.specs.Bits.{concat}
 use Rattle.plan.specs.Plan.{legal_plan}
 use Rattle.plan.specs.declared.Plan.{Plan}

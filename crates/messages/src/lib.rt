@@ -35,31 +35,13 @@ const LIMIT: usize = 4;
 // The end of a message's data: 2 to the 42.
 const DATA_END: u64 = 0x400_0000_0000;
 
-fn wide(x: u8) -> u64
-    ensures { (result ≡ x) × (result < 256) }
-{
-    x as u64
-}
-
-// The number that two bytes from a place on write.
-fn two(bytes: &[u8], at: usize) -> u64
-    requires { at + 2 ≤ length bytes.now }
-    ensures { (result ≡ big_endian bytes.now at 2) × (result < 65536) }
-{
-    let high = wide(bytes[at]);
-    let low = wide(bytes[at + 1]);
-    high * 256 + low
-}
-
 // The minute of message k.
 fn minute_at(bytes: &[u8], k: usize) -> u32
     requires { k * message_size + message_size ≤ length bytes.now }
     ensures { result ≡ (message_at bytes.now k).minute }
 {
-    let at = k * SIZE;
-    let high = two(bytes, at);
-    let low = two(bytes, at + 2);
-    (high * 65536 + low) as u32
+    let b = &bytes[k * SIZE..];
+    u32::from_be_bytes([b[0], b[1], b[2], b[3]])
 }
 
 // The data of message k.
@@ -67,18 +49,15 @@ pub fn payload_at(bytes: &[u8], k: usize) -> u64
     requires { k * message_size + message_size ≤ length bytes.now }
     ensures { result ≡ (message_at bytes.now k).payload }
 {
-    let at = k * SIZE + 4;
-    let high = two(bytes, at);
-    let middle = two(bytes, at + 2);
-    let low = two(bytes, at + 4);
-    (high * 65536 + middle) * 65536 + low
+    let b = &bytes[k * SIZE + 4..];
+    u64::from_be_bytes([0, 0, b[0], b[1], b[2], b[3], b[4], b[5]])
 }
 
 // Question 1 of the messages. Most plans have none.
 pub fn is_legal(bytes: &[u8]) -> bool
     ensures { result ≡ legal_messages (messages_in bytes.now) }
 {
-    if bytes.len() == 0 {
+    if bytes.is_empty() {
         return true;
     }
     if bytes.len() % SIZE != 0 {
@@ -88,21 +67,13 @@ pub fn is_legal(bytes: &[u8]) -> bool
     if LIMIT < count {
         return false;
     }
-    let mut from: u32 = 0;
-    let mut k: usize = 0;
-    while k < count {
+    let mut from = 0;
+    for k in 0..count {
         let minute = minute_at(bytes, k);
-        if minute < from {
-            return false;
-        }
-        if Date::MINUTES <= minute {
-            return false;
-        }
-        if DATA_END <= payload_at(bytes, k) {
+        if minute < from || Date::MINUTES <= minute || DATA_END <= payload_at(bytes, k) {
             return false;
         }
         from = minute + 1;
-        k += 1;
     }
     true
 }
@@ -113,9 +84,10 @@ pub fn next_minute(bytes: &[u8], k: usize) -> u32
     ensures { result ≡ next_minute (all_from bytes.now k) }
 {
     if k * SIZE < bytes.len() {
-        return minute_at(bytes, k);
+        minute_at(bytes, k)
+    } else {
+        Date::MINUTES
     }
-    Date::MINUTES
 }
 
 // The first message from a minute on.
@@ -123,12 +95,11 @@ pub fn first_from(bytes: &[u8], minute: u32) -> usize
     requires { length bytes.now % message_size ≡ 0 }
     ensures { (result ≤ length bytes.now / message_size) × (all_from bytes.now result ≡ remaining minute (messages_in bytes.now)) }
 {
-    let mut k: usize = 0;
-    while k * SIZE < bytes.len() {
+    let count = bytes.len() / SIZE;
+    for k in 0..count {
         if minute <= minute_at(bytes, k) {
             return k;
         }
-        k += 1;
     }
-    k
+    count
 }

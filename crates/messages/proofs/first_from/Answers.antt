@@ -1,9 +1,10 @@
-use Prim.Native.Nat.{ℕ, suc, ◌≤◌, ◌<◌}
+use Prim.Native.Nat.{ℕ, suc, ◌/◌, ◌≤◌, ◌<◌}
 use mathlib.Core.List.{List, ◌∷◌}
 use mathlib.Core.Path.{◌≡◌, sym, ap, ◌∙◌}
 use native.Mathlib.Numerals.{add-one}
 use native.Mathlib.Omega.{arith}
-use Rattle.messages.specs.Bytes.{message_at}
+use lib.ListN.{length}
+use Rattle.messages.specs.Bytes.{message_size, message_at}
 use Rattle.messages.specs.Walk.{remaining, all_from}
 use Rattle.messages.proofs.Laws.{all_are, none_from, some-from}
 use Rattle.messages.proofs.Minutes.{none-remain, skip, keep}
@@ -23,24 +24,25 @@ module _ (c : In-loop-k) where
 pub loop-k-init : goal.loop-k-init
 loop-k-init c =
     let z = c.args in
-    (omega arith, ap (remaining z.minute) (sym (all_are z.bytes.now c.requires)))
+    ap (remaining z.minute) (sym (all_are z.bytes.now c.requires))
 
 pub returns-then-minute-minute_at : goal.returns-then-minute-minute_at
 returns-then-minute-minute_at c =
     let d = (goal.at.returns-then-minute-minute_at c).In-loop-k in
     let h : t d ≤ (message_at (s d) c.loop-k.k).minute = omega (arith, c.minute_at.ensures) in
     let e = keep (t d) (message_at (s d) c.loop-k.k) (all_from (s d) (suc c.loop-k.k)) h in
-    (omega arith, some d ∙ sym e ∙ ap (remaining (t d)) (sym (some d)) ∙ c.loop-k.invariant.1)
+    (omega arith, some d ∙ sym e ∙ ap (remaining (t d)) (sym (some d)) ∙ c.loop-k.invariant)
 
 pub loop-k-preserved : goal.loop-k-preserved
 loop-k-preserved c =
     let d = (goal.at.loop-k-preserved c).In-loop-k in
     let h : (message_at (s d) c.loop-k.k).minute < t d = omega (arith, c.minute_at.ensures) in
     let e = skip (t d) (message_at (s d) c.loop-k.k) (all_from (s d) (suc c.loop-k.k)) h in
-    (omega arith, rw (add-one c.loop-k.k) (sym e ∙ ap (remaining (t d)) (sym (some d)) ∙ c.loop-k.invariant.1))
+    rw (add-one c.loop-k.k) (sym e ∙ ap (remaining (t d)) (sym (some d)) ∙ c.loop-k.invariant)
 
 pub returns : goal.returns
 returns c =
     let z = c.args in
-    let e = none_from z.bytes.now c.loop-k.k (omega arith) in
-    (omega arith, e ∙ sym (none-remain z.minute) ∙ ap (remaining z.minute) (sym e) ∙ c.loop-k.invariant.1)
+    let e = none_from z.bytes.now (length z.bytes.now / message_size) (omega arith) in
+    let f = none_from z.bytes.now c.loop-k.k (omega arith) in
+    (omega arith, e ∙ sym (none-remain z.minute) ∙ ap (remaining z.minute) (sym f) ∙ c.loop-k.invariant)

@@ -10,7 +10,7 @@ returns-then-k-bytes c =
     let a = c.args in
     c.minute_at.ensures ∙ sym (minute-next a.bytes.now a.k (omega arith))
 
-pub returns : goal.returns
-returns c =
+pub returns-else-k-bytes : goal.returns-else-k-bytes
+returns-else-k-bytes c =
     let a = c.args in
     sym (minute-none a.bytes.now a.k (λ h. omega arith))
