@@ -9,7 +9,7 @@ use native.Mathlib.Omega.{arith}
 use lib.Dec.{ltb}
 use lib.ListN.{get_or}
 use borrow.Author.Tests.{lt-ltb, le-ltb, ltb-true, ltb-false}
-use Rattle.std.proofs.Common.{Some, None}
+use Rattle.std.proofs.Common.{Option, Some, None}
 use Rattle.std.specs.Option.{option_map}
 use Rattle.bits.specs.Bits.{pick}
 use Rattle.bits.specs.Numbers.{Numbers, found, refused}
@@ -57,6 +57,10 @@ below-from from n len end e =
       | yes l ↦ rw (lt-ltb n len l, lt-ltb (from + n) end (omega arith))
       | no g ↦ rw (le-ltb n len (omega arith), le-ltb (from + n) end (omega arith))
     ]
+
+pub option_map-same : (o : Option ℕ) → option_map (λ k. k) o ≡ o
+option_map-same None = refl
+option_map-same (Some k) = refl
 
 -- ---- state words
 
