@@ -40,7 +40,6 @@ abbrev pub state_sent : Sent → List ℕ
 state_sent s = bits 5 (get_or state_words (4 * s.leap + s.daylight) 0)
 
 bit_is : (x i : ℕ) → is_bit (bit x i) ≡ true
-unfolding is_bit
 bit_is x i = le-leb (bit x i) 1 (omega (arith, bit-lt x i))
 
 enough-all : (one : Bool) (n l : ℕ) → n ≡ l → enough one n l ≡ true
@@ -93,16 +92,16 @@ module _ (x y : ℕ) (s : Sent) where
   bits-heard h = go
     where
       e-is : is_bit (s.minute % 2) ≡ true
-      e-is = unfold is_bit in le-leb (s.minute % 2) 1 (omega arith)
+      e-is = le-leb (s.minute % 2) 1 (omega arith)
 
       n-is : is_bit s.notice ≡ true
-      n-is = unfold is_bit in le-leb s.notice 1 h
+      n-is = le-leb s.notice 1 h
 
       z-is : is_bit 0 ≡ true
-      z-is = unfold is_bit in refl
+      z-is = refl
 
       go : all is_bit (take min_frame heard) ≡ true
-      go = unfold heard all in simp (bit_is, e-is, n-is, z-is)
+      go = unfold heard in simp (bit_is, e-is, n-is, z-is)
 
   -- an illegal state word
   illegal-heard : Legal s → (due : Due) (one : Bool) → state_of (number (bits 5 y)) ≡ illegal → read_next due one heard ≡ refused 9

@@ -28,7 +28,6 @@ use Rattle.format.proofs.Refusals.{frame-accepted, frame_refused}
 
 -- a number above 1 is no bit
 no-bit : (l : List ℕ) (k : ℕ) → k < length l → 1 < get_or l k 0 → all is_bit l ≡ false
-unfolding all is_bit
 no-bit [] k h g = absurd (omega arith)
 no-bit (b ∷ l) zero h g = rw (lt-leb b 1 g)
 no-bit (b ∷ l) (suc k) h g = rw (no-bit l k (omega arith) g) (and-false (leb b 1))

@@ -70,16 +70,16 @@ module _ (s : Sent) (d : ℕ) (rest : List ℕ) where
   bits-told h = go
     where
       e-is : is_bit (s.minute % 2) ≡ true
-      e-is = unfold is_bit in le-leb (s.minute % 2) 1 (omega arith)
+      e-is = le-leb (s.minute % 2) 1 (omega arith)
 
       n-is : is_bit s.notice ≡ true
-      n-is = unfold is_bit in le-leb s.notice 1 h
+      n-is = le-leb s.notice 1 h
 
       z-is : is_bit 0 ≡ true
-      z-is = unfold is_bit in refl
+      z-is = refl
 
       go : all is_bit (take min_frame told) ≡ true
-      go = unfold told all in simp (bit_is, e-is, n-is, z-is)
+      go = unfold told in simp (bit_is, e-is, n-is, z-is)
 
   length-told : length told ≡ min_frame + (s.seconds - min_frame + length rest)
   unfolding told

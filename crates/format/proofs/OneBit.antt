@@ -124,7 +124,7 @@ module _ (f : List ℕ) (k : ℕ) (h : min_frame ≤ length f) where
   next-inside lo hi = part-within 53 6 k f (k - 53) (omega arith) (omega arith)
 
 not_zeros : (n k : ℕ) → k < n → all is_zero (invert_bit k (replicate n 0)) ≡ false
-unfolding invert_bit all is_zero
+unfolding invert_bit
 not_zeros zero k h = absurd (omega arith)
 not_zeros (suc n) zero h = refl
 not_zeros (suc n) (suc k) h = not_zeros n k (omega arith)
@@ -143,7 +143,7 @@ free a b c = record { place = 0; bit19 = a; bit29 = b; bit39 = c }
 
 free-read : (s : Sent) → Legal s → (a b c : ℕ) → a ≤ 1 → b ≤ 1 → c ≤ 1
     → read_next start true (received (free a b c) (frame s)) ≡ entry (received_entry s (free a b c))
-unfolding is_bit follows
+unfolding follows
 free-read s l a b c ha hb hc =
     single-next s l (free a b c) (record { place_ok = omega arith; bit19-ok = le-leb a 1 ha; bit29-ok = le-leb b 1 hb; bit39-ok = le-leb c 1 hc }) start refl
 

@@ -35,13 +35,11 @@ unfolding time_bits time_numbers from frame body_of body sync code_word parities
 time-bits-sent s = refl
 
 pub zeros-pass : (n : ℕ) (rest : List ℕ) → all is_zero (take n (replicate n 0 ++ rest)) ≡ true
-unfolding all is_zero
 zeros-pass zero rest = refl
 zeros-pass (suc n) rest = zeros-pass n rest
 
 -- a bit that is put in keeps bits
 bits-set : (l : List ℕ) (k b : ℕ) → all is_bit l ≡ true → is_bit b ≡ true → all is_bit (set l k b) ≡ true
-unfolding all
 bits-set [] k b h g = h
 bits-set (x ∷ l) zero b h g = and-true g (tail-true (is_bit x) (all is_bit l) h)
 bits-set (x ∷ l) (suc k) b h g = and-true (head-true (is_bit x) (all is_bit l) h) (bits-set l k b (tail-true (is_bit x) (all is_bit l) h) g)
@@ -116,7 +114,7 @@ module _ (s : Sent) (r : Reception) (rest : List ℕ) where
   unfolding received with_unread inverted
   bits-heard b h =
       let sent = bits-invert r.place frame_places (body_of s) (all-binary (body_of s) (body_of-binary s h)) in
-      rw head-heard (bits-set _ 39 r.bit39 (bits-set _ 29 r.bit29 (bits-set _ 19 r.bit19 sent b.bit19-ok) b.bit29-ok) b.bit39-ok)
+      rw head-heard (bits-set (set (set (invert_at r.place frame_places (body_of s)) 19 r.bit19) 29 r.bit29) 39 r.bit39 (bits-set (set (invert_at r.place frame_places (body_of s)) 19 r.bit19) 29 r.bit29 (bits-set (invert_at r.place frame_places (body_of s)) 19 r.bit19 sent b.bit19-ok) b.bit29-ok) b.bit39-ok)
 
   length-heard : length heard ≡ min_frame + (s.seconds - min_frame + length rest)
   unfolding heard
@@ -178,11 +176,11 @@ unfolding received_entry with_echo only_place sent_entry
 only-place-entry s i = rw (eq-eqb (s.minute % 2) (s.minute % 2) refl)
 
 pub only-place-bits : (m i : ℕ) → i ≤ 31 → Bits (only_place m i)
-unfolding only_place is_bit
+unfolding only_place
 only-place-bits m i h = record { place_ok = h; bit19-ok = le-leb (m % 2) 1 (omega arith); bit29-ok = refl; bit39-ok = refl }
 
 pub only-place-reception : (m i : ℕ) → leb i 31 ≡ true → is_reception (only_place m i) ≡ true
-unfolding is_reception only_place is_bit
+unfolding is_reception only_place
 only-place-reception m i h = and-true h (and-true (le-leb (m % 2) 1 (omega arith)) refl)
 
 module _ (s : Sent) (i : ℕ) (rest : List ℕ) where

@@ -5,7 +5,7 @@ use mathlib.Core.Bool.{Bool, true, false}
 use mathlib.Core.List.{List}
 use mathlib.Core.Path.{◌≡◌, refl}
 use native.Mathlib.Omega.{arith}
-use Rattle.bits.specs.Bits.{bit, bits, is_bit, all}
+use Rattle.bits.specs.Bits.{bit, bits}
 use Rattle.bits.proofs.Tests.{binary}
 use Rattle.calendar.specs.Calendar.{last_of_month}
 use Rattle.timeword.specs.TimeWord.{Received, par0, par1, par2, par3, par4, sum_of, parity, parities, code_word, invert}
@@ -30,7 +30,7 @@ abbrev word0 : ℕ → ℕ → List ℕ
 word0 i j = invert (time_place j) (invert (time_place i) (code_word 0))
 
 received-0 : Received (word0 1 2) × Received (word0 0 1)
-unfolding invert code_word parities parity sum_of bits bit par0 par1 par2 par3 par4 all is_bit
+unfolding invert code_word parities parity sum_of bits bit par0 par1 par2 par3 par4
 received-0 = ((refl, binary (word0 1 2) refl), (refl, binary (word0 0 1) refl))
 
 -- the frames with these places inverted are the frame with that word

@@ -10,7 +10,7 @@ use lib.Dec.{leb}
 use lib.ListN.{length, take, drop, get_or, length-set, length-take}
 use lib.Seq.{get_or-take, take-take}
 use borrow.Author.Tests.{le-leb}
-use Rattle.bits.specs.Bits.{is_bit, all}
+use Rattle.bits.specs.Bits.{is_bit}
 use Rattle.bits.proofs.Parts.{part-take}
 use Rattle.format.specs.Frame.{min_frame, word_in, state_in, next_in}
 use Rattle.format.specs.Inverting.{with_unread}
@@ -44,7 +44,7 @@ length-unread x y f = simp length-set
 module _ (x y : ℕ) (hx : is_bit x ≡ true) (hy : is_bit y ≡ true) where
   spread : (due : Due) (alone : Bool) (g : ℕ → ℕ) (r : List ℕ) → is_bit (g 29) ≡ true → is_bit (g 39) ≡ true
       → read_next due alone (with_unread x y (tabulate min_frame g ++ r)) ≡ read_next due alone (tabulate min_frame g ++ r)
-  unfolding with_unread read_next next_questions time_questions message_questions entry_next is_message message_in data_in entry_of word_in state_in next_in tabulate all
+  unfolding with_unread read_next next_questions time_questions message_questions entry_next is_message message_in data_in entry_of word_in state_in next_in tabulate
   spread due alone g r h29 h39 = rw (hx, hy, h29, h39)
 
   -- the next frame in any state
