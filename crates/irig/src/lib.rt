@@ -7,48 +7,19 @@ ghost use Rattle.messages.specs.Bytes.{schedule_of};
 ghost use Rattle.irig_rules.specs.Irig.{day_of_year, clock_at};
 ghost use Rattle.irig_rules.specs.Reading.{ends_month, real_second, real_clock, read_irig};
 ghost use Rattle.irig_rules.specs.Writing.{write_irig, elements_written};
-ghost use Rattle.irig.specs.Answer.{write_refusal_number, write_numbers, read_numbers};
+ghost use Rattle.irig.specs.Answer.{write_numbers, read_numbers};
 
 use calendar::Date;
 use irig_row::ELEMENTS;
 use irig_rules::Clock;
-use plan::Plan;
+use messages::Schedule;
+use questions::Refusal;
 
-// The question that was answered no: 1, 3, 21 and 4.
+// A second of a year: the day of the year, which is counted from 1, and the second of the day.
 #[derive(Clone, Copy)]
-pub enum WriteRefusal {
-    IllegalPlan,
-    Minute,
-    BadSecond,
-    Space,
-}
-
-// The number of elements, or the refusal.
-#[derive(Clone, Copy)]
-pub enum WriteAnswer {
-    Written(usize),
-    Refused(WriteRefusal),
-}
-
-// The day of the year and the second of the day, or 21: no legal plan, minute and second give the elements.
-#[derive(Clone, Copy)]
-pub enum ReadAnswer {
-    Second(u32, u32),
-    NoSecond,
-}
-
-impl WriteRefusal {
-    // The number of the question.
-    pub fn number(self) -> u32
-        ensures { result ≡ write_refusal_number self }
-    {
-        match self {
-            WriteRefusal::IllegalPlan => 1,
-            WriteRefusal::Minute => 3,
-            WriteRefusal::BadSecond => 21,
-            WriteRefusal::Space => 4,
-        }
-    }
+pub struct Seconds {
+    pub day: u32,
+    pub second: u32,
 }
 
 // ---- writing
@@ -77,33 +48,30 @@ fn clock_at(minute: u32, second: u32) -> Clock
 
 // Writes one second; a refused one leaves the buffer as it was. Of the messages only question 1 is asked.
 pub fn write_second(
-    plan: Plan,
-    messages: &[u8],
+    schedule: Schedule,
     minute: u32,
     second: u32,
     out: &mut [u8],
-) -> WriteAnswer
-    ensures { (write_numbers result ≡ write_irig (schedule_of plan messages.now) minute second (length out.old))
-        × (out.new ≡ elements_written (schedule_of plan messages.now) minute second out.old) }
+) -> Result<usize, Refusal>
+    ensures { (write_numbers result
+        ≡ write_irig (schedule_of schedule.entry.plan schedule.entry.messages.now) minute second (length out.old))
+        × (out.new
+        ≡ elements_written (schedule_of schedule.entry.plan schedule.entry.messages.now) minute second out.old) }
 {
-    if !plan.is_legal() {
-        return WriteAnswer::Refused(WriteRefusal::IllegalPlan);
-    }
-    if !messages::is_legal(messages) {
-        return WriteAnswer::Refused(WriteRefusal::IllegalPlan);
+    if !schedule.is_legal() {
+        return Err(Refusal::IllegalPlan);
     }
     if Date::MINUTES <= minute {
-        return WriteAnswer::Refused(WriteRefusal::Minute);
+        return Err(Refusal::MinuteTooLarge);
     }
-    let length = plan.length(minute);
-    if length <= second {
-        return WriteAnswer::Refused(WriteRefusal::BadSecond);
+    if schedule.plan.length(minute) <= second {
+        return Err(Refusal::BadSecond);
     }
     if out.len() < ELEMENTS {
-        return WriteAnswer::Refused(WriteRefusal::Space);
+        return Err(Refusal::NoBitSpace);
     }
     irig_row::put_row(clock_at(minute, second), out);
-    WriteAnswer::Written(ELEMENTS)
+    Ok(ELEMENTS)
 }
 
 // ---- reading
@@ -123,58 +91,35 @@ fn ends_month(day: u32) -> bool
 }
 
 // Whether the second is below 60, or second 60 of 23:59 on a day that ends a month.
+#[tactic(auto, unfolding(irig_rules::specs::Reading::real_second))]
 fn has_real_second(c: Clock) -> bool
     requires { c.day ≤ 366 }
     ensures { result ≡ real_second c }
 {
-    if c.second < 60 {
-        return true;
-    }
-    if c.second != 60 {
-        return false;
-    }
-    if c.hour != 23 {
-        return false;
-    }
-    if c.minute != 59 {
-        return false;
-    }
-    ends_month(c.day)
+    c.second < 60 || c.second == 60 && c.hour == 23 && c.minute == 59 && ends_month(c.day)
 }
 
 // Whether the day of the year, the hour, the minute and the second are real.
+#[tactic(auto, unfolding(irig_rules::specs::Reading::real_clock))]
 fn is_real(c: Clock) -> bool
     ensures { result ≡ real_clock c }
 {
-    if c.day < 1 {
-        return false;
-    }
-    if 366 < c.day {
-        return false;
-    }
-    if 24 <= c.hour {
-        return false;
-    }
-    if 60 <= c.minute {
-        return false;
-    }
-    has_real_second(c)
+    (1..=366).contains(&c.day) && c.hour < 24 && c.minute < 60 && has_real_second(c)
 }
 
 // Reads one second: the elements show a real time, and are the elements of that time.
-pub fn read_second(elements: &[u8]) -> ReadAnswer
+pub fn read_second(elements: &[u8]) -> Result<Seconds, Refusal>
     ensures { read_numbers result ≡ read_irig elements.now }
 {
-    if elements.len() != ELEMENTS {
-        return ReadAnswer::NoSecond;
+    if elements.len() == ELEMENTS {
+        let clock = irig_row::clock_in(elements);
+        if is_real(clock) && irig_row::is_row(clock, elements) {
+            let second = irig_row::second_of_day(clock);
+            return Ok(Seconds {
+                day: clock.day,
+                second,
+            });
+        }
     }
-    let clock = irig_row::clock_in(elements);
-    if !is_real(clock) {
-        return ReadAnswer::NoSecond;
-    }
-    if irig_row::is_row(clock, elements) {
-        ReadAnswer::Second(clock.day, irig_row::second_of_day(clock))
-    } else {
-        ReadAnswer::NoSecond
-    }
+    Err(Refusal::BadSecond)
 }

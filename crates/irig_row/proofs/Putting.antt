@@ -1,12 +1,12 @@
 -- The row written line by line: a line in its place, and one line after the other.
 -- Assumes nothing.
-use Prim.Native.Nat.{ℕ, zero, suc, ◌+◌, ◌*◌, ◌/◌, ◌%◌, ◌≤◌, ◌<◌}
+use Prim.Native.Nat.{ℕ, zero, suc, ◌+◌, ◌-◌, ◌*◌, ◌/◌, ◌%◌, ◌≤◌, ◌<◌}
 use mathlib.Core.List.{List, [], ◌∷◌, ◌++◌, append_assoc, append-nil}
 use mathlib.Core.Path.{◌≡◌, refl, sym, ap, ◌∙◌}
 use native.Mathlib.Nat.{mod-add-div'}
 use native.Mathlib.Numerals.{add-one}
 use native.Mathlib.Omega.{arith}
-use lib.ListN.{length, take, drop, get_or, set, length-append}
+use lib.ListN.{length, take, drop, get_or, set, length-append, drop_of_length-le}
 use lib.Seq.{append_snoc, drop-drop, take_at, drop_at, length-take-le, drop-cons, set_at}
 use Rattle.bits.specs.Bits.{concat}
 use Rattle.irig_rules.specs.Irig.{low_bits, identifier}
@@ -31,26 +31,20 @@ drop-two l n h =
     let e : n + 2 ≡ suc (n + 1) = omega arith in
     rw (e, ← drop-cons l (n + 1) 0 (omega arith), add-one n) (drop-cons l n 0 (omega arith))
 
--- eight elements put at a place, and two after them
-module _ (old out : List ℕ) (x i : ℕ) (long : i + 10 ≤ length old)
-    (eight : out ≡ take i old ++ low_bits 8 (x % 256) ++ drop (i + 8) old) where
-  front : length (take i old ++ low_bits 8 (x % 256)) ≡ i + 8
-  front = length-append (take i old) (low_bits 8 (x % 256)) ∙ omega (arith, length-take-le i old (omega arith), length-low 8 (x % 256))
-
-  pub line-put : set (set out (i + 8) (x / 256 % 2)) (i + 9) identifier ≡ take i old ++ line_elements x ++ drop (i + 10) old
-  unfolding line_elements
-  line-put =
-      let nine-is : i + 9 ≡ i + 8 + 1 = omega arith in
-      let ten-is : i + 10 ≡ i + 8 + 2 = omega arith in
-      rw (
-        nine-is,
-        ten-is,
-        eight,
-        drop-two old (i + 8) (omega arith),
-        set-two (take i old ++ low_bits 8 (x % 256)) _ _ (x / 256 % 2) identifier (drop (i + 8 + 2) old) (i + 8) front,
-        nine x,
-      )
-      (simp append_assoc)
+-- eight elements of a line, and the two after them
+pub line-put : (old out : List ℕ) (x : ℕ) → length old ≡ 10 → out ≡ low_bits 8 (x % 256) ++ drop 8 old
+    → set (set out 8 (x / 256 % 2)) 9 identifier ≡ line_elements x
+unfolding line_elements
+line-put old out x long eight =
+    let all : drop 10 old ≡ [] = drop_of_length-le old {i = 10} (omega arith) in
+    rw (
+      eight,
+      drop-two old 8 (omega arith),
+      set-two (low_bits 8 (x % 256)) _ _ (x / 256 % 2) identifier (drop 10 old) 8 (length-low 8 (x % 256)),
+      all,
+      nine x,
+    )
+    (sym (append_assoc (low_bits 8 (x % 256)) (x / 256 % 2 ∷ []) (identifier ∷ [])))
 
 -- ---- the lines
 
@@ -76,19 +70,21 @@ abbrev pub Put : List ℕ → List ℕ → ℕ → List ℕ → Type 0
 Put old l k out = out ≡ row_elements (take k l) ++ drop (k * 10) old
 
 -- one line more
-pub next-line : (old l out new : List ℕ) (k : ℕ) → k < length l → Put old l k out
-    → new ≡ take (k * 10) out ++ line_elements (get_or l k 0) ++ drop (k * 10 + 10) out → Put old l (k + 1) new
-next-line old l out new k h p e =
+pub next-line : (old l out line : List ℕ) (k : ℕ) → k < length l → Put old l k out → line ≡ line_elements (get_or l k 0)
+    → Put old l (k + 1) (take (k * 10) out ++ (line ++ drop ((k + 1) * 10 - k * 10) (drop (k * 10) out)))
+next-line old l out line k h p e =
     let w = row_elements (take k l) in
     let n : length w ≡ k * 10 = length-rows (take k l) ∙ ap (λ (m : ℕ). m * 10) (length-take-le k l (omega arith)) in
+    let ten : (k + 1) * 10 - k * 10 ≡ 10 = omega arith in
     let f : (k + 1) * 10 ≡ k * 10 + 10 = omega arith in
-    e
-    ∙ rw (
+    rw (
+      ten,
+      e,
       p,
       take_at w (drop (k * 10) old) (k * 10) n,
-      ← drop-drop 10 (k * 10) (w ++ drop (k * 10) old),
       drop_at w (drop (k * 10) old) (k * 10) n,
       drop-drop 10 (k * 10) old,
       f,
       rows-suc l k h,
     )
+    (sym (append_assoc w (line_elements (get_or l k 0)) (drop (k * 10 + 10) old)))

@@ -1,32 +1,36 @@
 -- The numbers that elements write, element by element.
 -- Assumes nothing.
-use Prim.Native.Nat.{ℕ, suc, ◌+◌, ◌*◌, ◌≤◌, ◌<◌}
-use mathlib.Core.List.{List}
-use mathlib.Core.Path.{◌≡◌, refl, sym}
-use native.Mathlib.Nat.{add_assoc}
+use Prim.Native.Nat.{ℕ, ◌+◌, ◌*◌, ◌≤◌, ◌<◌}
+use mathlib.Core.List.{List, [], ◌∷◌}
+use mathlib.Core.Path.{◌≡◌}
 use native.Mathlib.Numerals.{add-one}
 use native.Mathlib.Omega.{arith}
-use lib.ListN.{length, get_or}
-use lib.Seq.{drop-cons}
-use Rattle.irig_rules.specs.Reading.{low_number, number_at}
+use lib.ListN.{length, drop, get_or, drop_of_length-le, length-drop}
+use lib.Seq.{drop-cons, get_or-drop}
+use mir.Syntax.{w8}
+use mir.Val.{Fits}
+use Rattle.irig_rules.specs.Reading.{low_number}
 
-module _ (e : List ℕ) where
-  none-at : (k : ℕ) → number_at e k 0 ≡ 0
-  unfolding number_at low_number
-  none-at k = refl
+-- no element
+pub low-none : (e : List ℕ) → 0 ≡ low_number (drop (length e) e)
+unfolding low_number
+low-none e = rw (drop_of_length-le e {i = length e} (omega arith))
 
-  more-at : (k n : ℕ) → k < length e → number_at e k (suc n) ≡ get_or e k 0 + number_at e (k + 1) n * 2
-  unfolding number_at low_number
-  more-at k n h = rw (drop-cons e k 0 h, add-one k)
+-- one element more
+pub low-from : (e : List ℕ) (j : ℕ) → j < length e → low_number (drop j e) ≡ get_or e j 0 + low_number (drop (j + 1) e) * 2
+unfolding low_number
+low-from e j h = rw (drop-cons e j 0 h, add-one j)
 
-  one_at : (k : ℕ) → k < length e → number_at e k 1 ≡ get_or e k 0
-  one_at k h = omega (arith, more-at k 0 h, none-at (k + 1))
+-- the number of at most four bytes
+low_small : (w : List ℕ) → ((k : ℕ) → Fits w8 (get_or w k 0)) → length w ≤ 4 → low_number w < 3826
+unfolding low_number
+low_small [] f h = omega arith
+low_small (a ∷ []) f h = omega (arith, f 0)
+low_small (a ∷ b ∷ []) f h = omega (arith, f 0, f 1)
+low_small (a ∷ b ∷ c ∷ []) f h = omega (arith, f 0, f 1, f 2)
+low_small (a ∷ b ∷ c ∷ d ∷ []) f h = omega (arith, f 0, f 1, f 2, f 3)
+low_small (a ∷ b ∷ c ∷ d ∷ x ∷ w) f h = absurd (omega arith)
 
-  pub two_is : (k : ℕ) → k + 2 ≤ length e → get_or e k 0 + get_or e (k + 1) 0 * 2 ≡ number_at e k 2
-  two_is k h = omega (arith, more-at k 1 (omega arith), one_at (k + 1) (omega arith))
-
-  pub three-is : (k : ℕ) → k + 3 ≤ length e → get_or e k 0 + get_or e (k + 1) 0 * 2 + get_or e (k + 2) 0 * 4 ≡ number_at e k 3
-  three-is k h = omega (arith, more-at k 2 (omega arith), rw (add_assoc k 1 1) at (sym (two_is (k + 1) (omega arith))))
-
-  pub four_is : (k : ℕ) → k + 4 ≤ length e → get_or e k 0 + get_or e (k + 1) 0 * 2 + get_or e (k + 2) 0 * 4 + get_or e (k + 3) 0 * 8 ≡ number_at e k 4
-  four_is k h = omega (arith, more-at k 3 (omega arith), rw (add_assoc k 1 1, add_assoc k 1 2) at (sym (three-is (k + 1) (omega arith))))
+pub small_from : (e : List ℕ) (i : ℕ) → ((k : ℕ) → Fits w8 (get_or e k 0)) → length e ≤ 4 → low_number (drop i e) < 3826
+small_from e i f h =
+    low_small (drop i e) (λ k. rw (get_or-drop i e k 0) (f (i + k))) (omega (arith, length-drop i e))

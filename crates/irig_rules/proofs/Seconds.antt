@@ -22,7 +22,7 @@ use Rattle.irig_rules.proofs.Given.{clock-reads, Read, accepted}
 -- ---- second 60
 
 last-days-real : all (λ d. real_clock (leap_second d)) last_days ≡ true
-unfolding all real_clock real_second ends_month one_of month_lengths before
+unfolding real_clock real_second ends_month one_of month_lengths before
 last-days-real = refl
 
 last-read : (d : ℕ) → one_of last_days d ≡ true → read_irig (elements_of (leap_second d)) ≡ found (d ∷ 86_400 ∷ [])

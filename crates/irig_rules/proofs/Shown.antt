@@ -32,7 +32,7 @@ module _ (c : Clock) where
   length-elements = refl
 
   marks-all : all (λ k. eqb (get_or e k 0) 2) identifiers ≡ true
-  unfolding elements_of concat low_bits all
+  unfolding elements_of concat low_bits
   marks-all = refl
 
   -- a place that is no identifier's and in no field

@@ -24,9 +24,11 @@ pub returns : goal.returns
 unfolding lines_of
 returns c =
     rw (
-      c.second_of_day-straight.ensures,
+      c.from-straight.ensures,
+      c.second_of_day.ensures,
       c.digits_line.ensures.0,
       c.digits_line-2.ensures.0,
       c.digits_line-3.ensures.0,
       c.digits_line-4.ensures.0,
+      c.from.ensures,
     )
