@@ -1,16 +1,11 @@
 -- What the text of a case holds, and the check sum of a text: what `trials` and `vectors` try the code with. No section of the papers: the form
 -- of stored cases is the test programs' own.
 -- Assumes nothing.
-use Rattle.std.specs.Prelude.{ℕ, ◌+◌, ◌-◌, ◌*◌, ◌/◌, ◌%◌, ◌^◌, Bool, ◌&&◌, List, [], ◌∷◌, length, ℤ, pos, neg_ℤ, ◌==◌, nat_le, nat_lt, slice_index_or}
+use Rattle.std.specs.Prelude.{ℕ, ◌+◌, ◌-◌, ◌*◌, ◌/◌, ◌%◌, ◌^◌, Bool, true, false, ◌&&◌, fold, List, length, ℤ, pos, neg_ℤ, ◌==◌, nat_le, nat_lt, slice_index_or}
+use Rattle.std.specs.List.{list_any}
 use Rattle.bits.specs.Bits.{pick}
-use Rattle.spans.specs.Bytes.{index_of}
 use Rattle.plan.specs.declared.Plan.{Plan}
 use Rattle.cases.specs.declared.Scan.{Scan}
-
--- what is made of a list, element by element
-unfoldable pub folded : {A : Type 0} → (A → ℕ → A) → A → List ℕ → A
-folded f a [] = a
-folded f a (b ∷ l) = folded f (f a b) l
 
 -- ---- numbers: a number is a run of digits
 
@@ -19,7 +14,7 @@ is_digit b = nat_le 48 b && nat_le b 57
 
 -- after a byte that is no digit: a number that was read ends
 unfoldable pub outside : Scan → Scan
-outside s = record { ended = (s.ended + s.within) % 4294967296; value = s.value; within = 0 }
+outside s = record { ended = (s.ended + pick s.within 1 0) % 4294967296; value = s.value; within = false }
 
 -- after a digit, which belongs to number k where k numbers ended
 unfoldable pub inside : ℕ → Scan → ℕ → Scan
@@ -27,7 +22,7 @@ inside k s digit =
     record {
       ended = s.ended;
       value = pick (s.ended == k) (s.value % 1000000000000000000 * 10 + digit) s.value;
-      within = 1;
+      within = true;
     }
 
 -- one byte more
@@ -35,11 +30,11 @@ unfoldable pub stepped : ℕ → Scan → ℕ → Scan
 stepped k s b = pick (is_digit b) (inside k s (b - 48)) (outside s)
 
 unfoldable pub nothing_yet : Scan
-nothing_yet = record { ended = 0; value = 0; within = 0 }
+nothing_yet = record { ended = 0; value = 0; within = false }
 
 -- number k of a text, from 0 on: its last 19 digits
 unfoldable pub long_at : ℕ → List ℕ → ℕ
-long_at k text = (folded (stepped k) nothing_yet text).value
+long_at k text = (fold (stepped k) nothing_yet text).value
 
 -- modulo 2 ^ 32
 unfoldable pub number_at : ℕ → List ℕ → ℕ
@@ -49,7 +44,7 @@ number_at k text = long_at k text % 4294967296
 unfoldable pub signed_at : ℕ → List ℕ → ℤ
 signed_at k text =
     let n = number_at k text % 65536 in
-    pick (nat_lt (index_of 45 text) (length text)) (neg_ℤ (pos n)) (pos n)
+    pick (list_any (λ b. b == 45) text) (neg_ℤ (pos n)) (pos n)
 
 -- the plan: the first six numbers
 unfoldable pub plan_in : List ℕ → Plan
@@ -96,4 +91,4 @@ abbrev pub summed : ℕ → ℕ → ℕ
 summed sum b = (sum * 257 + b) % 4294967291
 
 unfoldable pub check_sum : List ℕ → ℕ
-check_sum text = folded summed 0 text
+check_sum text = fold summed 0 text

@@ -1,8 +1,0 @@
--- `cases::past` meets its contract.
--- Assumes nothing.
-use Rattle.cases.specs.Cases.{outside}
-use Rattle.cases.proofs.past.Goals as goal
-
-pub returns : goal.returns
-unfolding outside
-returns c = rw c.wrapping_add_u32.ensures.value
