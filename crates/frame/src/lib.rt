@@ -16,31 +16,16 @@ ghost use Rattle.format.specs.Sending.{day_word};
 ghost use Rattle.format.specs.Reading.{seconds_for, entry_of};
 ghost use Rattle.format.specs.Questions.{follows, enough, time_questions};
 ghost use Rattle.format.specs.Next.{refused, entry, read_next};
-ghost use Rattle.frame.specs.Answer.{refusal_number, frame_numbers};
+ghost use Rattle.frame.specs.Answer.{frame_numbers};
 
 use calendar::Date;
-use codewords::{LeapState, RowAnswer, State, StateAnswer};
+use codewords::{LeapState, State};
 use format::Due;
 use plan::Plan;
-
-// The question that was answered no, numbers 5 to 11, 13, 14, 19 and 20.
-#[derive(Clone, Copy)]
-pub enum Refusal {
-    EntrySpace,
-    Short,
-    NotBits,
-    Sync,
-    StateWord,
-    NextWord,
-    Minute,
-    Length,
-    Order,
-    FirstMessage,
-    LeapUnknown,
-}
+use questions::Refusal;
 
 // What a time frame says beside its state. The place is the repaired one, or 0; the echo is 1 where it is right.
-#[derive(Clone, Copy)]
+#[derive(Clone, Copy, PartialEq, Eq, Debug)]
 pub struct Fields {
     pub minute: u32,
     pub length: u8,
@@ -51,7 +36,7 @@ pub struct Fields {
 }
 
 // What a message says. The minute is the counted one, and the length that of its place.
-#[derive(Clone, Copy)]
+#[derive(Clone, Copy, PartialEq, Eq, Debug)]
 pub struct Told {
     pub minute: u32,
     pub length: u8,
@@ -59,33 +44,11 @@ pub struct Told {
     pub payload: u64,
 }
 
-// A time frame's state and fields, what a message says, or the refusal.
-#[derive(Clone, Copy)]
-pub enum FrameAnswer {
-    Read(State, Fields),
+// What a frame says: a time frame's state and fields, or a message.
+#[derive(Clone, Copy, PartialEq, Eq, Debug)]
+pub enum Frame {
+    Time(State, Fields),
     Message(Told),
-    Refused(Refusal),
-}
-
-impl Refusal {
-    // The number of the question.
-    pub fn number(self) -> u32
-        ensures { result ≡ refusal_number self }
-    {
-        match self {
-            Refusal::EntrySpace => 5,
-            Refusal::Short => 6,
-            Refusal::NotBits => 7,
-            Refusal::Sync => 8,
-            Refusal::StateWord => 9,
-            Refusal::NextWord => 10,
-            Refusal::Minute => 11,
-            Refusal::Length => 13,
-            Refusal::Order => 14,
-            Refusal::FirstMessage => 19,
-            Refusal::LeapUnknown => 20,
-        }
-    }
 }
 
 // The lengths of a frame.
@@ -110,10 +73,9 @@ pub fn day_word(plan: Plan, day: u32) -> u64
 {
     let minute = day * 1440;
     let state = plan.state(minute);
-    let daylight = state.daylight;
-    let next = codewords::next_word(plan.row_for(minute, daylight)) as u64;
-    let state = codewords::state_word(state) as u64;
-    layout::day_part(state, plan.notice as u64, next)
+    let next = codewords::next_word(plan.row_for(minute, state.daylight));
+    let state = codewords::state_word(state);
+    layout::day_part(u64::from(state), u64::from(plan.notice), u64::from(next))
 }
 
 // Writes the 59 bits of a word to the front of out, and zeros after them, to a number of seconds.
@@ -147,9 +109,9 @@ pub fn time_frame(plan: Plan, minute: u32, day: u64) -> u64
         × (day ≡ day_word plan («minute» / 1440)) }
     ensures { result ≡ number (body_of (sent_by plan «minute»)) }
 {
-    let time = timeword::encode(minute) as u64;
-    let echo = (minute % 2) as u64;
-    layout::time_part(time, echo) * 4096 + day
+    let time = timeword::encode(minute);
+    let echo = minute % 2;
+    layout::time_part(u64::from(time), u64::from(echo)) * 4096 + day
 }
 
 // Bits 0 to 58 of a message in the place of a minute's time frame, as a number.
@@ -157,7 +119,7 @@ pub fn message_frame(plan: Plan, minute: u32, payload: u64) -> u64
     requires { (legal_plan plan ≡ true) × (payload < 2 ^ 42) }
     ensures { result ≡ number (message_body (bits 42 payload) («minute» % 2) plan.notice) }
 {
-    layout::message_part(payload, (minute % 2) as u64, plan.notice as u64)
+    layout::message_part(payload, u64::from(minute % 2), u64::from(plan.notice))
 }
 
 // Writes the time frame of a minute to the front of out, from the bits of its day; gives its length.
@@ -192,20 +154,18 @@ fn seconds_with(last: u8, minute: u32) -> u8
 fn seconds_for(leap: u8, minute: u32) -> u8
     ensures { result ≡ seconds_for leap (last_of_month minute) }
 {
-    if leap == 0 {
-        return USUAL_FRAME;
+    match leap {
+        0 => USUAL_FRAME,
+        1 => seconds_with(MIN_FRAME, minute),
+        _ => seconds_with(MAX_FRAME, minute),
     }
-    if leap == 1 {
-        return seconds_with(MIN_FRAME, minute);
-    }
-    seconds_with(MAX_FRAME, minute)
 }
 
 // The length that a leap state and a minute call for.
 fn length_for(leap: LeapState, minute: u32) -> u8
     ensures { result ≡ seconds_for (leap_number leap) (last_of_month minute) }
 {
-    seconds_for(codewords::leap_number(leap), minute)
+    seconds_for(u8::from(leap), minute)
 }
 
 // Question 13: as many bytes as called for, and those after byte 58 all 0.
@@ -214,16 +174,12 @@ fn ends_right(frame: &[u8], alone: bool, seconds: usize) -> bool
     ensures { result
         ≡ (enough alone seconds (length frame.now) && all is_zero (take (seconds - min_frame) (drop min_frame frame.now))) }
 {
-    if alone {
-        if seconds != frame.len() {
-            return false;
-        }
+    let enough = if alone {
+        seconds == frame.len()
     } else {
-        if frame.len() < seconds {
-            return false;
-        }
-    }
-    bits::is_zero(&frame[BODY..seconds])
+        seconds <= frame.len()
+    };
+    enough && bits::is_zero(&frame[BODY..seconds])
 }
 
 // Question 14 of a time frame.
@@ -232,52 +188,54 @@ fn is_due(due: Due, minute: u32) -> bool
 {
     match due {
         Due::Any => true,
-        Due::Minute(m, leap) => minute == m,
+        Due::Minute(due, _) => minute == due,
     }
 }
 
 // Questions 10, 11, 13 and 14, of a time frame whose first 59 bits and state are read.
-fn read_fields(frame: &[u8], alone: bool, word: u64, state: State, due: Due) -> FrameAnswer
+fn read_fields(
+    frame: &[u8],
+    alone: bool,
+    word: u64,
+    state: State,
+    due: Due,
+) -> Result<Frame, Refusal>
     requires { (take min_frame frame.now ≡ bits min_frame word)
         × (state_number state ≡ state_of (number (state_in frame.now))) }
     ensures { frame_numbers result
         ≡ asked refused (time_questions due alone frame.now (entry_of frame.now)) (entry (entry_of frame.now)) }
 {
-    let daylight = state.daylight;
-    let found = codewords::read_row(daylight, (word % 64) as u8);
-    let RowAnswer::Assigned(row) = found else {
-        return FrameAnswer::Refused(Refusal::NextWord);
+    let Some(row) = codewords::read_row(state.daylight, (word % 64) as u8) else {
+        return Err(Refusal::BadNextChange);
     };
     let received = layout::time_word(word);
     let time = timeword::decode(received);
     let minute = time.minute;
-    let place = time.place;
     if Date::MINUTES <= minute {
-        return FrameAnswer::Refused(Refusal::Minute);
+        return Err(Refusal::BadMinute);
     }
-    let leap = state.leap;
-    let length = length_for(leap, minute);
-    if ends_right(frame, alone, length as usize) {
-        if is_due(due, minute) {
-            let notice = layout::notice_bit(word);
-            let echo = layout::echo_right(word, minute);
-            let fields = Fields {
-                minute,
-                length,
-                row,
-                notice,
-                place,
-                echo,
-            };
-            return FrameAnswer::Read(state, fields);
-        }
-        return FrameAnswer::Refused(Refusal::Order);
+    let length = length_for(state.leap, minute);
+    if !ends_right(frame, alone, length as usize) {
+        return Err(Refusal::BadLength);
     }
-    FrameAnswer::Refused(Refusal::Length)
+    if !is_due(due, minute) {
+        return Err(Refusal::OutOfOrder);
+    }
+    let notice = layout::notice_bit(word);
+    let echo = layout::echo_right(word, minute);
+    let fields = Fields {
+        minute,
+        length,
+        row,
+        notice,
+        place: time.place,
+        echo,
+    };
+    Ok(Frame::Time(state, fields))
 }
 
 // Reads the frame at the front of a slice in a state, whose first 59 bits are those of a word: one frame alone, or the next frame of a recording.
-pub fn read_frame(frame: &[u8], alone: bool, word: u64, due: Due) -> FrameAnswer
+pub fn read_frame(frame: &[u8], alone: bool, word: u64, due: Due) -> Result<Frame, Refusal>
     requires { (min_frame ≤ length frame.now)
         × (all is_bit (take min_frame frame.now) ≡ true)
         × (number (take min_frame frame.now) ≡ word) }
@@ -288,11 +246,10 @@ pub fn read_frame(frame: &[u8], alone: bool, word: u64, due: Due) -> FrameAnswer
         if sync == layout::MESSAGE_SYNC {
             return message::read(frame, alone, word, due);
         }
-        return FrameAnswer::Refused(Refusal::Sync);
+        return Err(Refusal::BadSync);
     }
-    let answer = codewords::read_state(layout::state_bits(word));
-    match answer {
-        StateAnswer::Legal(state) => read_fields(frame, alone, word, state, due),
-        StateAnswer::Illegal => FrameAnswer::Refused(Refusal::StateWord),
-    }
+    let Some(state) = codewords::read_state(layout::state_bits(word)) else {
+        return Err(Refusal::BadState);
+    };
+    read_fields(frame, alone, word, state, due)
 }

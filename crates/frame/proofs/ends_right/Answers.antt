@@ -1,54 +1,21 @@
 -- `frame::ends_right` meets its contract.
 -- Assumes nothing.
-use Prim.Native.Nat.{ℕ, ◌≤◌}
 use mathlib.Core.Path.{◌≡◌}
-use mathlib.Core.Bool.{Bool, true, false}
-use native.Mathlib.Omega.{arith}
 use lib.ListN.{length}
-use borrow.Author.Tests.{eq-eqb, ne_eqb, le-leb, lt-leb}
 use Rattle.format.specs.Questions.{enough}
 use Rattle.frame.proofs.ends_right.Goals as goal
-use Rattle.frame.proofs.ends_right.Goals.{then-alone+else-seconds-frame, else-alone+else-frame-seconds, Joined-alone}
+use Rattle.frame.proofs.ends_right.Goals.{Joined-alone, then-alone, else-alone}
 
-exactly : (b : Bool) (n l : ℕ) → b ≡ true → n ≡ l → enough b n l ≡ true
+-- where the two ways meet
+enough-is : (c : Joined-alone) → c.if-alone.enough ≡ enough c.args.alone c.args.seconds (length c.args.frame.now)
 unfolding enough
-exactly b n l e h = rw e (eq-eqb n l h)
+enough-is c = elim c.if-alone.branch [
+  | then-alone w ↦ rw w.if-alone.true w.enough-is
+  | else-alone w ↦ rw w.if-alone.false w.enough-is
+]
 
-at_least : (b : Bool) (n l : ℕ) → b ≡ false → n ≤ l → enough b n l ≡ true
-unfolding enough
-at_least b n l e h = rw e (le-leb n l h)
+pub returns-then-enough : goal.returns-then-enough
+returns-then-enough c = rw (← enough-is (goal.at.returns-then-enough c).Joined-alone, c.if-enough.true) c.is_zero.ensures
 
--- where the two ways meet, the bytes are enough
-module _ (c : Joined-alone) where
-  abbrev n : ℕ
-  n = c.args.seconds
-
-  abbrev l : ℕ
-  l = length c.args.frame.now
-
-  enough-true : enough c.args.alone n l ≡ true
-  enough-true = elim c.if-alone.branch [
-    | then-alone+else-seconds-frame w ↦ exactly _ n l w.if-alone.true (omega (arith, w.if-seconds-frame.false))
-    | else-alone+else-frame-seconds w ↦ at_least _ n l w.if-alone.false w.if-frame-seconds.false
-  ]
-
-  long : n ≤ l
-  long = elim c.if-alone.branch [ then-alone+else-seconds-frame w ↦ omega (arith, w.if-seconds-frame.false) | else-alone+else-frame-seconds w ↦ w.if-frame-seconds.false ]
-
-pub returns-then-seconds-frame : goal.returns-then-seconds-frame
-unfolding enough
-returns-then-seconds-frame c =
-    let a = c.args in
-    rw (c.if-alone.true, ne_eqb a.seconds (length a.frame.now) c.if-seconds-frame.true)
-
-pub returns-then-frame-seconds : goal.returns-then-frame-seconds
-unfolding enough
-returns-then-frame-seconds c =
-    let a = c.args in
-    rw (c.if-alone.false, lt-leb a.seconds (length a.frame.now) c.if-frame-seconds.true)
-
-pub slice_bounds-is_zero-end : goal.slice_bounds-is_zero-end
-slice_bounds-is_zero-end c = omega (arith, long (goal.at.slice_bounds-is_zero-end c).Joined-alone)
-
-pub returns : goal.returns
-returns c = rw (enough-true (goal.at.returns c).Joined-alone) c.is_zero.ensures
+pub returns-else-enough : goal.returns-else-enough
+returns-else-enough c = rw (← enough-is (goal.at.returns-else-enough c).Joined-alone, c.if-enough.false)

@@ -5,7 +5,6 @@ use mathlib.Core.Path.{◌≡◌, sym, ap, ◌∙◌}
 use mathlib.Core.Bool.{Bool}
 use native.Mathlib.Nat.{le_refl}
 use mathlib.Core.List.{List}
-use lib.ListN.{length}
 use Rattle.bits.specs.Bits.{bits, number}
 use Rattle.codewords.specs.CodeWords.{illegal, unassigned, state_of, row_of, row_answer}
 use Rattle.codewords.proofs.Tables.{state-lt}
@@ -39,7 +38,7 @@ returns-in_default c =
     let at : Corrected → Entry = λ t. entry_at x t c.args.state in
     let q9 : state_of (number (state_in f)) < illegal = rw (← c.requires.1) (state-lt c.args.state) in
     let is : entry_of f ≡ at (reading (bits 31 (number (word_in (bits min_frame x))))) = entry-is f x c.args.state c.requires.0 c.requires.1 in
-    let none : row_of _ _ ≡ unassigned = unassigned-is _ _ (ap row_answer (sym c.in_default.is) ∙ c.read_row-found.ensures) in
+    let none : row_of _ _ ≡ unassigned = unassigned-is _ _ (ap row_answer (sym c.in_default.is) ∙ c.read_row.ensures) in
     rw is (sym (no-10 due one f (at (reading (bits 31 (number (word_in (bits min_frame x)))))) q9 (rw none (le_refl _))))
 
 pub returns-then-minute-ge-MINUTES : goal.returns-then-minute-ge-MINUTES
@@ -51,8 +50,8 @@ returns-then-minute-ge-MINUTES c =
     let at : Corrected → Entry = λ t. entry_at x t c.args.state in
     let q9 : state_of (number (state_in f)) < illegal = rw (← c.requires.1) (state-lt c.args.state) in
     let is : entry_of f ≡ at (reading (bits 31 (number (word_in (bits min_frame x))))) = entry-is f x c.args.state c.requires.0 c.requires.1 in
-    let row : ℕ = c.in-Assigned.row in
-    let row-found : (row ≡ (at (reading (bits 31 (number (word_in (bits min_frame x)))))).row) × (row < unassigned) = assigned-is row _ _ (ap row_answer (sym c.in-Assigned.is) ∙ c.read_row-found.ensures) in
+    let row : ℕ = c.in-Some.row in
+    let row-found : (row ≡ (at (reading (bits 31 (number (word_in (bits min_frame x)))))).row) × (row < unassigned) = assigned-is row _ _ (ap row_answer (sym c.in-Some.is) ∙ c.read_row.ensures) in
     let e : Entry = at c.decode-time.result in
     let e-is : entry_of f ≡ e = is ∙ ap at (sym (c.decode-time.ensures ∙ ap (λ (n : ℕ). reading (bits 31 n)) c.time_word-received.ensures)) in
     let row_ok : e.row < unassigned = rw (← row-found.0) row-found.1 in
@@ -61,45 +60,6 @@ returns-then-minute-ge-MINUTES c =
 pub ends_right-requires : goal.ends_right-requires
 ends_right-requires c =
     rw c.length_for-length.ensures (seconds-long _ _)
-
-pub returns-then-is_due : goal.returns-then-is_due
-returns-then-is_due c =
-    let f : List ℕ = c.args.frame.now in
-    let x : ℕ = c.args.word in
-    let one : Bool = c.args.alone in
-    let due : Due = c.args.due in
-    let at : Corrected → Entry = λ t. entry_at x t c.args.state in
-    let q9 : state_of (number (state_in f)) < illegal = rw (← c.requires.1) (state-lt c.args.state) in
-    let is : entry_of f ≡ at (reading (bits 31 (number (word_in (bits min_frame x))))) = entry-is f x c.args.state c.requires.0 c.requires.1 in
-    let row : ℕ = c.in-Assigned.row in
-    let row-found : (row ≡ (at (reading (bits 31 (number (word_in (bits min_frame x)))))).row) × (row < unassigned) = assigned-is row _ _ (ap row_answer (sym c.in-Assigned.is) ∙ c.read_row-found.ensures) in
-    let e : Entry = at c.decode-time.result in
-    let e-is : entry_of f ≡ e = is ∙ ap at (sym (c.decode-time.ensures ∙ ap (λ (n : ℕ). reading (bits 31 n)) c.time_word-received.ensures)) in
-    let row_ok : e.row < unassigned = rw (← row-found.0) row-found.1 in
-    let q13 : c.ends_right.result ≡ question13 one f e = rw (← c.length_for-length.ensures) c.ends_right.ensures in
-    rw e-is
-    (ap entry
-    (same-entry x c.decode-time.result c.args.state c.length_for-length.result row c.notice_bit-notice.result c.echo_right-echo.result
-    c.length_for-length.ensures row-found.0 (c.notice_bit-notice.ensures ∙ notice-bit x) c.echo_right-echo.ensures)
-    ∙ sym (yes-14 due one f e q9 row_ok c.if-minute-ge-MINUTES.false (sym q13 ∙ c.if-ends_right.true) (sym c.is_due.ensures ∙ c.if-is_due.true)))
-
-pub returns-then-ends_right : goal.returns-then-ends_right
-returns-then-ends_right c =
-    let f : List ℕ = c.args.frame.now in
-    let x : ℕ = c.args.word in
-    let one : Bool = c.args.alone in
-    let due : Due = c.args.due in
-    let at : Corrected → Entry = λ t. entry_at x t c.args.state in
-    let q9 : state_of (number (state_in f)) < illegal = rw (← c.requires.1) (state-lt c.args.state) in
-    let is : entry_of f ≡ at (reading (bits 31 (number (word_in (bits min_frame x))))) = entry-is f x c.args.state c.requires.0 c.requires.1 in
-    let row : ℕ = c.in-Assigned.row in
-    let row-found : (row ≡ (at (reading (bits 31 (number (word_in (bits min_frame x)))))).row) × (row < unassigned) = assigned-is row _ _ (ap row_answer (sym c.in-Assigned.is) ∙ c.read_row-found.ensures) in
-    let e : Entry = at c.decode-time.result in
-    let e-is : entry_of f ≡ e = is ∙ ap at (sym (c.decode-time.ensures ∙ ap (λ (n : ℕ). reading (bits 31 n)) c.time_word-received.ensures)) in
-    let row_ok : e.row < unassigned = rw (← row-found.0) row-found.1 in
-    let q13 : c.ends_right.result ≡ question13 one f e = rw (← c.length_for-length.ensures) c.ends_right.ensures in
-    rw e-is
-    (sym (no-14 due one f e q9 row_ok c.if-minute-ge-MINUTES.false (sym q13 ∙ c.if-ends_right.true) (sym c.is_due.ensures ∙ c.if-is_due.false)))
 
 pub returns : goal.returns
 returns c =
@@ -110,10 +70,49 @@ returns c =
     let at : Corrected → Entry = λ t. entry_at x t c.args.state in
     let q9 : state_of (number (state_in f)) < illegal = rw (← c.requires.1) (state-lt c.args.state) in
     let is : entry_of f ≡ at (reading (bits 31 (number (word_in (bits min_frame x))))) = entry-is f x c.args.state c.requires.0 c.requires.1 in
-    let row : ℕ = c.in-Assigned.row in
-    let row-found : (row ≡ (at (reading (bits 31 (number (word_in (bits min_frame x)))))).row) × (row < unassigned) = assigned-is row _ _ (ap row_answer (sym c.in-Assigned.is) ∙ c.read_row-found.ensures) in
+    let row : ℕ = c.in-Some.row in
+    let row-found : (row ≡ (at (reading (bits 31 (number (word_in (bits min_frame x)))))).row) × (row < unassigned) = assigned-is row _ _ (ap row_answer (sym c.in-Some.is) ∙ c.read_row.ensures) in
     let e : Entry = at c.decode-time.result in
     let e-is : entry_of f ≡ e = is ∙ ap at (sym (c.decode-time.ensures ∙ ap (λ (n : ℕ). reading (bits 31 n)) c.time_word-received.ensures)) in
     let row_ok : e.row < unassigned = rw (← row-found.0) row-found.1 in
     let q13 : c.ends_right.result ≡ question13 one f e = rw (← c.length_for-length.ensures) c.ends_right.ensures in
-    rw e-is (sym (no-13 due one f e q9 row_ok c.if-minute-ge-MINUTES.false (sym q13 ∙ c.if-ends_right.false)))
+    rw e-is
+    (ap entry
+    (same-entry x c.decode-time.result c.args.state c.length_for-length.result row c.notice_bit-notice.result c.echo_right-echo.result
+    c.length_for-length.ensures row-found.0 (c.notice_bit-notice.ensures ∙ notice-bit x) c.echo_right-echo.ensures)
+    ∙ sym (yes-14 due one f e q9 row_ok c.if-minute-ge-MINUTES.false (sym q13 ∙ c.if-not-ends_right.false) (sym c.is_due.ensures ∙ c.if-not-is_due.false)))
+
+pub returns-then-not-is_due : goal.returns-then-not-is_due
+returns-then-not-is_due c =
+    let f : List ℕ = c.args.frame.now in
+    let x : ℕ = c.args.word in
+    let one : Bool = c.args.alone in
+    let due : Due = c.args.due in
+    let at : Corrected → Entry = λ t. entry_at x t c.args.state in
+    let q9 : state_of (number (state_in f)) < illegal = rw (← c.requires.1) (state-lt c.args.state) in
+    let is : entry_of f ≡ at (reading (bits 31 (number (word_in (bits min_frame x))))) = entry-is f x c.args.state c.requires.0 c.requires.1 in
+    let row : ℕ = c.in-Some.row in
+    let row-found : (row ≡ (at (reading (bits 31 (number (word_in (bits min_frame x)))))).row) × (row < unassigned) = assigned-is row _ _ (ap row_answer (sym c.in-Some.is) ∙ c.read_row.ensures) in
+    let e : Entry = at c.decode-time.result in
+    let e-is : entry_of f ≡ e = is ∙ ap at (sym (c.decode-time.ensures ∙ ap (λ (n : ℕ). reading (bits 31 n)) c.time_word-received.ensures)) in
+    let row_ok : e.row < unassigned = rw (← row-found.0) row-found.1 in
+    let q13 : c.ends_right.result ≡ question13 one f e = rw (← c.length_for-length.ensures) c.ends_right.ensures in
+    rw e-is
+    (sym (no-14 due one f e q9 row_ok c.if-minute-ge-MINUTES.false (sym q13 ∙ c.if-not-ends_right.false) (sym c.is_due.ensures ∙ c.if-not-is_due.true)))
+
+pub returns-then-not-ends_right : goal.returns-then-not-ends_right
+returns-then-not-ends_right c =
+    let f : List ℕ = c.args.frame.now in
+    let x : ℕ = c.args.word in
+    let one : Bool = c.args.alone in
+    let due : Due = c.args.due in
+    let at : Corrected → Entry = λ t. entry_at x t c.args.state in
+    let q9 : state_of (number (state_in f)) < illegal = rw (← c.requires.1) (state-lt c.args.state) in
+    let is : entry_of f ≡ at (reading (bits 31 (number (word_in (bits min_frame x))))) = entry-is f x c.args.state c.requires.0 c.requires.1 in
+    let row : ℕ = c.in-Some.row in
+    let row-found : (row ≡ (at (reading (bits 31 (number (word_in (bits min_frame x)))))).row) × (row < unassigned) = assigned-is row _ _ (ap row_answer (sym c.in-Some.is) ∙ c.read_row.ensures) in
+    let e : Entry = at c.decode-time.result in
+    let e-is : entry_of f ≡ e = is ∙ ap at (sym (c.decode-time.ensures ∙ ap (λ (n : ℕ). reading (bits 31 n)) c.time_word-received.ensures)) in
+    let row_ok : e.row < unassigned = rw (← row-found.0) row-found.1 in
+    let q13 : c.ends_right.result ≡ question13 one f e = rw (← c.length_for-length.ensures) c.ends_right.ensures in
+    rw e-is (sym (no-13 due one f e q9 row_ok c.if-minute-ge-MINUTES.false (sym q13 ∙ c.if-not-ends_right.true)))

@@ -35,25 +35,25 @@ pub read_fields-requires : goal.read_fields-requires
 read_fields-requires c =
     let f : List ℕ = c.args.frame.now in
     let front : take min_frame f ≡ bits min_frame c.args.word = front-bits f c.args.word c.requires.0 c.requires.1 c.requires.2 in
-    let state-is : state_answer c.read_state-answer.result ≡ state_reading (number (state_in f)) = c.read_state-answer.ensures
+    let state-is : state_answer c.read_state.result ≡ state_reading (number (state_in f)) = c.read_state.ensures
     ∙ ap state_reading (c.state_bits.ensures ∙ ap (λ (l : List ℕ). number (state_in l)) (sym front) ∙ ap number (state-front f)) in
-    (front, legal-is c.in-Legal.state _ (ap state_answer (sym c.in-Legal.is) ∙ state-is))
+    (front, legal-is c.in-Some.state _ (ap state_answer (sym c.in-Some.is) ∙ state-is))
 
-pub returns-in-Legal : goal.returns-in-Legal
-returns-in-Legal c =
+pub returns : goal.returns
+returns c =
     let f : List ℕ = c.args.frame.now in
     let sync-is : number (take 13 f) ≡ c.args.word / 2 ^ 46 = sync-number f c.args.word c.requires.0 c.requires.1 c.requires.2 in
     let sync-right : number (take 13 f) ≡ sync_word = sync-is ∙ c.if-sync-ne-SYNC.false in
     let time-is : read_next c.args.due c.args.alone f ≡ time_answer c.args.due c.args.alone f (entry_of f) = yes-8 c.args.due c.args.alone f c.requires.0 c.requires.1 sync-right in
     rw time-is c.read_fields.ensures
 
-pub returns-in-Illegal : goal.returns-in-Illegal
-returns-in-Illegal c =
+pub returns-in_default : goal.returns-in_default
+returns-in_default c =
     let f : List ℕ = c.args.frame.now in
     let front : take min_frame f ≡ bits min_frame c.args.word = front-bits f c.args.word c.requires.0 c.requires.1 c.requires.2 in
     let sync-is : number (take 13 f) ≡ c.args.word / 2 ^ 46 = sync-number f c.args.word c.requires.0 c.requires.1 c.requires.2 in
     let sync-right : number (take 13 f) ≡ sync_word = sync-is ∙ c.if-sync-ne-SYNC.false in
-    let state-is : state_answer c.read_state-answer.result ≡ state_reading (number (state_in f)) = c.read_state-answer.ensures
+    let state-is : state_answer c.read_state.result ≡ state_reading (number (state_in f)) = c.read_state.ensures
     ∙ ap state_reading (c.state_bits.ensures ∙ ap (λ (l : List ℕ). number (state_in l)) (sym front) ∙ ap number (state-front f)) in
     let time-is : read_next c.args.due c.args.alone f ≡ time_answer c.args.due c.args.alone f (entry_of f) = yes-8 c.args.due c.args.alone f c.requires.0 c.requires.1 sync-right in
-    sym (time-is ∙ no_9 c.args.due c.args.alone f _ (illegal-is _ (ap state_answer (sym c.in-Illegal.is) ∙ state-is)))
+    sym (time-is ∙ no_9 c.args.due c.args.alone f _ (illegal-is _ (ap state_answer (sym c.in_default.is) ∙ state-is)))

@@ -6,13 +6,12 @@ use Rattle.format.specs.Reading.{seconds_for}
 use Rattle.frame.proofs.Lengths.{shorter, longer}
 use Rattle.frame.proofs.seconds_for.Goals as goal
 
-pub returns-then-leap-eq0 : goal.returns-then-leap-eq0
+pub returns-in-0 : goal.returns-in-0
 unfolding seconds_for
-returns-then-leap-eq0 c = rw c.if-leap-eq0.true
+returns-in-0 c = rw c.in-0.is
 
-pub returns-then-leap-eq1 : goal.returns-then-leap-eq1
-returns-then-leap-eq1 c = rw c.if-leap-eq1.true (c.seconds_with.ensures ∙ shorter _)
+pub returns-in-1 : goal.returns-in-1
+returns-in-1 c = rw c.in-1.is (c.seconds_with.ensures ∙ shorter _)
 
-pub returns : goal.returns
-returns c =
-    c.seconds_with-2.ensures ∙ longer _ _ (omega (arith, c.if-leap-eq1.false, c.if-leap-eq0.false))
+pub returns-in_default : goal.returns-in_default
+returns-in_default c = c.seconds_with-in_default.ensures ∙ longer _ _ (omega arith)

@@ -23,8 +23,8 @@ slice_bounds-gather-end c =
     let front_length : length (take min_frame f) ≡ min_frame = length-take-le min_frame f (omega arith) in
     sym front_length
 
-pub gather-gathered-requires : goal.gather-gathered-requires
-gather-gathered-requires c =
+pub gather-requires : goal.gather-requires
+gather-requires c =
     let f : List ℕ = c.args.frame.now in
     let front_length : length (take min_frame f) ≡ min_frame = length-take-le min_frame f (omega arith) in
     omega (arith, front_length)
@@ -32,13 +32,13 @@ gather-gathered-requires c =
 pub returns-in_default : goal.returns-in_default
 returns-in_default c =
     let f : List ℕ = c.args.frame.now in
-    sym (no-7 c.args.due c.args.alone f (omega arith) (gathered_none (take min_frame f) (sym c.gather-gathered.ensures ∙ c.in_default.is)))
+    sym (no-7 c.args.due c.args.alone f (omega arith) (gathered_none (take min_frame f) (sym c.gather.ensures ∙ c.in_default.is)))
 
 pub read_frame-requires : goal.read_frame-requires
 read_frame-requires c =
     let f : List ℕ = c.args.frame.now in
-    let w : ℕ = c.in-Word.word in
-    let front : (all is_bit (take min_frame f) ≡ true) × (number (take min_frame f) ≡ w) = gathered-word (take min_frame f) w (sym c.gather-gathered.ensures ∙ c.in-Word.is) in
+    let w : ℕ = c.in-Some.word in
+    let front : (all is_bit (take min_frame f) ≡ true) × (number (take min_frame f) ≡ w) = gathered-word (take min_frame f) w (sym c.gather.ensures ∙ c.in-Some.is) in
     (omega arith, front.0, front.1)
 
 pub returns : goal.returns

@@ -62,9 +62,9 @@ returns-then-not-ends_right c =
     let q13 : c.ends_right.result ≡ question13 one f e = rw (← seconds-are) c.ends_right.ensures in
     sym (no-13 m l one f e q20 q11 (sym q13 ∙ c.if-not-ends_right.true))
 
-pub returns-then-echo_bit-minute : goal.returns-then-echo_bit-minute
+pub returns-then-echo_bit-from : goal.returns-then-echo_bit-from
 unfolding message_in message_entry
-returns-then-echo_bit-minute c =
+returns-then-echo_bit-from c =
     let f : List ℕ = c.args.frame.now in
     let one : Bool = c.args.alone in
     let m : ℕ = c.args.minute in
@@ -76,7 +76,7 @@ returns-then-echo_bit-minute c =
     let q13 : c.ends_right.result ≡ question13 one f e = unfold message_in message_entry in rw (← seconds-are) c.ends_right.ensures in
     let yes-13 : question13 one f e ≡ true = sym q13 ∙ c.if-not-ends_right.false in
     let echo-is : get_or f 19 0 ≡ c.echo_bit.result = echo_of f c.args.word c.requires ∙ sym c.echo_bit.ensures in
-    sym (no-14 m l one f e q20 q11 yes-13 (λ h. c.if-echo_bit-minute.true (sym echo-is ∙ h)))
+    sym (no-14 m l one f e q20 q11 yes-13 (λ h. c.if-echo_bit-from.true (sym echo-is ∙ h ∙ sym c.from.ensures)))
 
 pub returns : goal.returns
 unfolding message_in message_entry
@@ -98,4 +98,4 @@ returns c =
     c.seconds_for-length.ensures
     (c.notice_bit-notice.ensures ∙ notice-bit w ∙ sym (notice-of f w c.requires))
     (c.message_data-payload.ensures ∙ sym (data_of f w c.requires)))
-    ∙ sym (yes-14 m l one f e q20 q11 yes-13 (echo-is ∙ c.if-echo_bit-minute.false))
+    ∙ sym (yes-14 m l one f e q20 q11 yes-13 (echo-is ∙ c.if-echo_bit-from.false ∙ c.from.ensures))

@@ -1,9 +1,0 @@
--- `frame::seconds_with` meets its contract.
--- Assumes nothing.
-use Rattle.frame.proofs.seconds_with.Goals as goal
-
-pub returns-then-is_last_of_month : goal.returns-then-is_last_of_month
-returns-then-is_last_of_month c = rw (← c.is_last_of_month.ensures, c.if-is_last_of_month.true)
-
-pub returns-else-is_last_of_month : goal.returns-else-is_last_of_month
-returns-else-is_last_of_month c = rw (← c.is_last_of_month.ensures, c.if-is_last_of_month.false)
