@@ -12,53 +12,14 @@ ghost use Rattle.format.specs.Frame.{min_frame};
 ghost use Rattle.format.specs.Message.{content_at, frame_of};
 ghost use Rattle.format.specs.Sending.{day_word};
 ghost use Rattle.sequence.specs.Writing.{max_count, recording, seconds, write_result, buffer_written};
-ghost use Rattle.recording.specs.Answer.{write_refusal_number, write_numbers};
+ghost use Rattle.recording.specs.Answer.{write_numbers};
 
 use calendar::Date;
+use messages::Schedule;
 use plan::{Plan, USUAL_FRAME};
-
-// The question of writing that was answered no, numbers 1 to 4.
-#[derive(Clone, Copy)]
-pub enum WriteRefusal {
-    IllegalPlan,
-    Count,
-    Minute,
-    Space,
-}
-
-// The number of bits, or the refusal.
-#[derive(Clone, Copy)]
-pub enum WriteAnswer {
-    Written(usize),
-    Refused(WriteRefusal),
-}
-
-impl WriteRefusal {
-    // The number of the question.
-    pub fn number(self) -> u32
-        ensures { result ≡ write_refusal_number self }
-    {
-        match self {
-            WriteRefusal::IllegalPlan => 1,
-            WriteRefusal::Count => 2,
-            WriteRefusal::Minute => 3,
-            WriteRefusal::Space => 4,
-        }
-    }
-}
+use questions::Refusal;
 
 const MAX_COUNT: u32 = 1_000;
-
-// Question 1, in a function of its own: with one branch more before write_recording calls write_frames the compiler takes
-// that call for a rare one, and a single frame is written some 10 % slower.
-fn is_legal(plan: Plan, messages: &[u8]) -> bool
-    ensures { result ≡ legal_schedule (schedule_of plan messages.now) }
-{
-    if plan.is_legal() {
-        return messages::is_legal(messages);
-    }
-    false
-}
 
 // The bits of the frames of count minutes from the first on. They are less than a day, so that one of them at most
 // ends a day, and only such a minute can have 59 or 61 seconds.
@@ -75,104 +36,101 @@ fn bits_needed(plan: Plan, first: u32, count: u32) -> usize
 }
 
 // Bits 0 to 58 of what is sent in a minute, as a number: of message k where its minute is due, else of the time frame.
-fn word_sent(plan: Plan, messages: &[u8], k: usize, due: u32, minute: u32, day: u64) -> u64
-    requires { (legal_schedule (schedule_of plan messages.now) ≡ true)
+fn word_sent(schedule: Schedule, k: usize, due: u32, minute: u32, day: u64) -> u64
+    requires { (legal_schedule (schedule_of schedule.plan schedule.messages.now) ≡ true)
         × («minute» < minute_count)
-        × NextIs messages.now «minute» k due
-        × (day ≡ day_word plan («minute» / 1440)) }
+        × NextIs schedule.messages.now «minute» k due
+        × (day ≡ day_word schedule.plan («minute» / 1440)) }
     ensures { (result < 2 ^ min_frame)
-        × (bits min_frame result ++ replicate (length_at plan «minute» - min_frame) 0
-        ≡ frame_of (content_at (schedule_of plan messages.now) «minute»)) }
+        × (bits min_frame result ++ replicate (length_at schedule.entry.plan «minute» - min_frame) 0
+        ≡ frame_of (content_at (schedule_of schedule.entry.plan schedule.entry.messages.now) «minute»)) }
 {
     if minute == due {
-        return frame::message_frame(plan, minute, messages::payload_at(messages, k));
+        let payload = messages::payload_at(schedule.messages, k);
+        frame::message_frame(schedule.plan, minute, payload)
+    } else {
+        frame::time_frame(schedule.plan, minute, day)
     }
-    frame::time_frame(plan, minute, day)
 }
 
 // Writes what is sent in a minute to the front of out; gives its length.
 fn write_next(
-    plan: Plan,
-    messages: &[u8],
+    schedule: Schedule,
     k: usize,
     due: u32,
     minute: u32,
     word: u64,
     out: &mut [u8],
 ) -> usize
-    requires { (legal_schedule (schedule_of plan messages.now) ≡ true)
+    requires { (legal_schedule (schedule_of schedule.plan schedule.messages.now) ≡ true)
         × («minute» < minute_count)
-        × NextIs messages.now «minute» k due
-        × (word ≡ day_word plan («minute» / 1440))
-        × (length_at plan «minute» ≤ length out.old) }
-    ensures { (result ≡ length_at plan «minute»)
+        × NextIs schedule.messages.now «minute» k due
+        × (word ≡ day_word schedule.plan («minute» / 1440))
+        × (length_at schedule.plan «minute» ≤ length out.old) }
+    ensures { (result ≡ length_at schedule.entry.plan «minute»)
         × (out.new
-        ≡ frame_of (content_at (schedule_of plan messages.now) «minute») ++ drop (length_at plan «minute») out.old) }
+        ≡ frame_of (content_at (schedule_of schedule.entry.plan schedule.entry.messages.now) «minute») ++ drop (length_at schedule.entry.plan «minute») out.old) }
 {
-    let sent = word_sent(plan, messages, k, due, minute, word);
-    frame::put_frame(plan, minute, sent, out)
+    let sent = word_sent(schedule, k, due, minute, word);
+    frame::put_frame(schedule.plan, minute, sent, out)
 }
 
 // Writes the frames of count minutes from the first on, each directly after the one before. The bits that a day's
 // frames share are worked out once for the day; message k is the next one, and due its minute.
-fn write_frames(plan: Plan, messages: &[u8], first: u32, count: u32, out: &mut [u8])
-    requires { (legal_schedule (schedule_of plan messages.now) ≡ true)
+fn write_frames(schedule: Schedule, first: u32, count: u32, out: &mut [u8])
+    requires { (legal_schedule (schedule_of schedule.plan schedule.messages.now) ≡ true)
         × (1 ≤ count)
         × (first + count ≤ minute_count)
-        × (seconds plan first count ≤ length out.old) }
+        × (seconds schedule.plan first count ≤ length out.old) }
     ensures { out.new
-        ≡ recording (schedule_of plan messages.now) first count ++ drop (seconds plan first count) out.old }
+        ≡ recording (schedule_of schedule.entry.plan schedule.entry.messages.now) first count ++ drop (seconds schedule.entry.plan first count) out.old }
 {
     let mut day = first / 1440;
-    let mut word = frame::day_word(plan, day);
-    let mut k = messages::first_from(messages, first);
-    let mut due = messages::next_minute(messages, k);
-    let mut at: usize = 0;
-    let mut i: u32 = 0;
-    while i < count {
+    let mut word = frame::day_word(schedule.plan, day);
+    let mut k = messages::first_from(schedule.messages, first);
+    let mut due = messages::next_minute(schedule.messages, k);
+    let mut at = 0;
+    for i in 0..count {
         let minute = first + i;
         if minute / 1440 != day {
             day = minute / 1440;
-            word = frame::day_word(plan, day);
+            word = frame::day_word(schedule.plan, day);
         }
-        at += write_next(plan, messages, k, due, minute, word, &mut out[at..]);
+        at += write_next(schedule, k, due, minute, word, &mut out[at..]);
         if minute == due {
             k += 1;
-            due = messages::next_minute(messages, k);
+            due = messages::next_minute(schedule.messages, k);
         }
-        i += 1;
     }
 }
 
-// Writes a recording by a plan with messages, ten bytes each; a refused one leaves the buffer as it was.
+// Writes a recording by a plan with messages, ten bytes each; gives the number of its bits. A refused one leaves the
+// buffer as it was. Question 1 is one call: with one branch more before write_recording calls write_frames the compiler
+// takes that call for a rare one, and a single frame is written some 10 % slower.
 pub fn write_recording(
-    plan: Plan,
-    messages: &[u8],
+    schedule: Schedule,
     first: u32,
     count: u32,
     out: &mut [u8],
-) -> WriteAnswer
+) -> Result<usize, Refusal>
     ensures { (write_numbers result
-        ≡ write_result (schedule_of plan messages.now) first count (length out.old))
+        ≡ write_result (schedule_of schedule.entry.plan schedule.entry.messages.now) first count (length out.old))
         × (out.new
-        ≡ buffer_written (schedule_of plan messages.now) first count out.old) }
+        ≡ buffer_written (schedule_of schedule.entry.plan schedule.entry.messages.now) first count out.old) }
 {
-    if !is_legal(plan, messages) {
-        return WriteAnswer::Refused(WriteRefusal::IllegalPlan);
+    if !schedule.is_legal() {
+        return Err(Refusal::IllegalPlan);
     }
-    if count < 1 {
-        return WriteAnswer::Refused(WriteRefusal::Count);
-    }
-    if MAX_COUNT < count {
-        return WriteAnswer::Refused(WriteRefusal::Count);
+    if count < 1 || MAX_COUNT < count {
+        return Err(Refusal::BadCount);
     }
     if Date::MINUTES - count < first {
-        return WriteAnswer::Refused(WriteRefusal::Minute);
+        return Err(Refusal::MinuteTooLarge);
     }
-    let needed = bits_needed(plan, first, count);
+    let needed = bits_needed(schedule.plan, first, count);
     if out.len() < needed {
-        return WriteAnswer::Refused(WriteRefusal::Space);
+        return Err(Refusal::NoBitSpace);
     }
-    write_frames(plan, messages, first, count, out);
-    WriteAnswer::Written(needed)
+    write_frames(schedule, first, count, out);
+    Ok(needed)
 }

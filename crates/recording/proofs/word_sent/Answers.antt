@@ -20,10 +20,10 @@ use Rattle.format.proofs.Sending.{body-lt, frame-bits, message-lt, message-bits}
 use Rattle.recording.proofs.Turn.{message-sent, time-sent}
 use Rattle.recording.proofs.word_sent.Goals as goal
 
-pub payload_at-requires : goal.payload_at-requires
-payload_at-requires c =
-    let p : Plan = c.args.plan in
-    let s : List ℕ = c.args.messages.now in
+pub payload_at-payload-requires : goal.payload_at-payload-requires
+payload_at-payload-requires c =
+    let p : Plan = c.args.schedule.plan in
+    let s : List ℕ = c.args.schedule.messages.now in
     let m : ℕ = c.args.minute in
     let messages-ok : legal_messages (messages_in s) ≡ true = messages-legal (schedule_of p s) c.requires.0 in
     let inside : (e : m ≡ c.args.due) → c.args.k < length s / message_size = λ e. index s messages-ok m c.args.k c.args.due c.requires.2 c.requires.1 e in
@@ -31,26 +31,26 @@ payload_at-requires c =
 
 pub message_frame-requires : goal.message_frame-requires
 message_frame-requires c =
-    let p : Plan = c.args.plan in
-    let s : List ℕ = c.args.messages.now in
+    let p : Plan = c.args.schedule.plan in
+    let s : List ℕ = c.args.schedule.messages.now in
     let m : ℕ = c.args.minute in
     let messages-ok : legal_messages (messages_in s) ≡ true = messages-legal (schedule_of p s) c.requires.0 in
     let d : (e : m ≡ c.args.due) → ℕ = λ e. (message_at s c.args.k).payload in
     let small : (e : m ≡ c.args.due) → d e < 2 ^ 42 = λ e. its-data s messages-ok m c.args.k c.args.due c.requires.2 c.requires.1 e in
-    (plan-legal (schedule_of p s) c.requires.0, rw c.payload_at.ensures (small c.if-minute-due.true))
+    (plan-legal (schedule_of p s) c.requires.0, rw c.payload_at-payload.ensures (small c.if-minute-due.true))
 
 pub returns-then-minute-due : goal.returns-then-minute-due
 unfolding sent_by
 returns-then-minute-due c =
-    let p : Plan = c.args.plan in
-    let s : List ℕ = c.args.messages.now in
+    let p : Plan = c.args.schedule.plan in
+    let s : List ℕ = c.args.schedule.messages.now in
     let m : ℕ = c.args.minute in
     let notice : (sent_by p m).notice ≤ 1 = notice-legal p (plan-legal (schedule_of p s) c.requires.0) in
     let d : (e : m ≡ c.args.due) → ℕ = λ e. (message_at s c.args.k).payload in
     let x = sent_by p m in
     let e = c.if-minute-due.true in
     let w : c.message_frame.result ≡ number (message_body (bits 42 (d e)) (x.minute % 2) x.notice) =
-    (rw c.payload_at.ensures at c.message_frame.ensures) in (
+    (rw c.payload_at-payload.ensures at c.message_frame.ensures) in (
       rw w (message-lt (d e) (x.minute % 2) x.notice (omega arith) (omega (arith, notice))),
       message-bits x (d e) _ (length_at p m) notice w (refl)
           ∙ ap frame_of (sym (message-sent p s c.requires.0 m c.args.k c.args.due c.requires.2 c.requires.1 e)),
@@ -58,15 +58,15 @@ returns-then-minute-due c =
 
 pub time_frame-requires : goal.time_frame-requires
 time_frame-requires c =
-    let p : Plan = c.args.plan in
-    let s : List ℕ = c.args.messages.now in
+    let p : Plan = c.args.schedule.plan in
+    let s : List ℕ = c.args.schedule.messages.now in
     (plan-legal (schedule_of p s) c.requires.0, c.requires.1, c.requires.3)
 
-pub returns : goal.returns
+pub returns-else-minute-due : goal.returns-else-minute-due
 unfolding sent_by
-returns c =
-    let p : Plan = c.args.plan in
-    let s : List ℕ = c.args.messages.now in
+returns-else-minute-due c =
+    let p : Plan = c.args.schedule.plan in
+    let s : List ℕ = c.args.schedule.messages.now in
     let m : ℕ = c.args.minute in
     let notice : (sent_by p m).notice ≤ 1 = notice-legal p (plan-legal (schedule_of p s) c.requires.0) in
     let x = sent_by p m in

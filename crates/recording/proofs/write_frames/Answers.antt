@@ -30,22 +30,21 @@ moved e f g x = rw (← e, f, g) x
 
 pub day_word-word-requires : goal.day_word-word-requires
 day_word-word-requires c =
-    (plan-legal (schedule_of c.args.plan c.args.messages.now) c.requires.0, omega (arith, c.requires.1, c.requires.2))
+    (plan-legal (schedule_of c.args.schedule.plan c.args.schedule.messages.now) c.requires.0, omega (arith, c.requires.1, c.requires.2))
 
 pub first_from-k-requires : goal.first_from-k-requires
 first_from-k-requires c =
-    whole c.args.plan c.args.messages.now c.requires.0
+    whole c.args.schedule.plan c.args.schedule.messages.now c.requires.0
 
 pub next_minute-due-requires : goal.next_minute-due-requires
 next_minute-due-requires c =
-    (whole c.args.plan c.args.messages.now c.requires.0, c.first_from-k.ensures.0)
+    (whole c.args.schedule.plan c.args.schedule.messages.now c.requires.0, c.first_from-k.ensures.0)
 
 pub loop-i-init : goal.loop-i-init
 unfolding seconds recording frames concat
 loop-i-init c =
     let f = c.first_from-k in
     let a = c.args in (
-      omega arith,
       refl,
       refl,
       refl,
@@ -60,10 +59,10 @@ overflow_add-minute c =
 -- in a turn
 module _ (c : In-loop-i) where
   abbrev p : Plan
-  p = c.args.plan
+  p = c.args.schedule.plan
 
   abbrev s : List ℕ
-  s = c.args.messages.now
+  s = c.args.schedule.messages.now
 
   abbrev q : Schedule
   q = schedule_of p s
@@ -86,7 +85,7 @@ module _ (c : In-loop-i) where
   fits : at + length_at p (m + i) ≤ length out₀
   fits = omega (
     arith,
-    c.loop-i.invariant.1,
+    c.loop-i.invariant.0,
     seconds-snoc p m i,
     seconds-mono p m (suc i) c.args.count c.loop-i-test.true,
     c.requires.3,
@@ -96,41 +95,41 @@ module _ (c : In-loop-i) where
   range = omega (arith, c.requires.2, c.loop-i-test.true)
 
   next-is : NextIs s (m + i) c.loop-i.k c.loop-i.due
-  next-is = c.loop-i.invariant.5
+  next-is = c.loop-i.invariant.4
 
 pub day_word-word-requires-then-minute-day : goal.day_word-word-requires-then-minute-day
 day_word-word-requires-then-minute-day c =
     let d = (goal.at.day_word-word-requires-then-minute-day c).In-loop-i in
-    let p : Plan = c.args.plan in
-    let s : List ℕ = c.args.messages.now in
+    let p : Plan = c.args.schedule.plan in
+    let s : List ℕ = c.args.schedule.messages.now in
     let q : Schedule = schedule_of p s in
     (plan-legal q (legal d), omega (arith, c.requires.2, c.loop-i-test.true))
 
 pub slice_bounds-write_next-count : goal.slice_bounds-write_next-count
 slice_bounds-write_next-count c =
     let d = (goal.at.slice_bounds-write_next-count c).In-loop-i in
-    omega (arith, fits d, c.loop-i.invariant.2)
+    omega (arith, fits d, c.loop-i.invariant.1)
 
 pub slice_bounds-write_next-start : goal.slice_bounds-write_next-start
 slice_bounds-write_next-start c =
     let d = (goal.at.slice_bounds-write_next-start c).In-loop-i in
-    omega (arith, fits d, c.loop-i.invariant.2)
+    omega (arith, fits d, c.loop-i.invariant.1)
 
 pub write_next-at-requires : goal.write_next-at-requires
 write_next-at-requires c =
     let d = (goal.at.write_next-at-requires c).In-loop-i in
-    let p : Plan = c.args.plan in
+    let p : Plan = c.args.schedule.plan in
     let m : ℕ = c.args.first in
     let i : ℕ = c.loop-i.i in
     let at : ℕ = c.loop-i.at in
     let out : List ℕ = c.loop-i.out in
     let day-now : c.if-minute-day.day ≡ (m + i) / 1440 = elim c.if-minute-day.branch [ then-minute-day w ↦ w.day-is | else-minute-day w ↦ w.day-is ∙ sym w.if-minute-day.false ] in
-    let word-now : c.if-minute-day.word ≡ day_word p c.if-minute-day.day = elim c.if-minute-day.branch [ then-minute-day w ↦ w.word-is ∙ w.day_word-word-then-minute-day.ensures ∙ ap (day_word p) (sym w.day-is) | else-minute-day w ↦ w.word-is ∙ c.loop-i.invariant.4 ∙ ap (day_word p) (sym w.day-is) ] in (
+    let word-now : c.if-minute-day.word ≡ day_word p c.if-minute-day.day = elim c.if-minute-day.branch [ then-minute-day w ↦ w.word-is ∙ w.day_word-word-then-minute-day.ensures ∙ ap (day_word p) (sym w.day-is) | else-minute-day w ↦ w.word-is ∙ c.loop-i.invariant.3 ∙ ap (day_word p) (sym w.day-is) ] in (
       (legal d),
       (range d),
       (next-is d),
       word-now ∙ ap (day_word p) day-now,
-      rw (tail out at) (omega (arith, fits d, c.loop-i.invariant.2, length-drop at out)),
+      rw (tail out at) (omega (arith, fits d, c.loop-i.invariant.1, length-drop at out)),
     )
 
 pub overflow_add-at : goal.overflow_add-at
@@ -141,18 +140,18 @@ overflow_add-at c =
 pub overflow_add-k : goal.overflow_add-k
 overflow_add-k c =
     let d = (goal.at.overflow_add-k c).In-loop-i in
-    let p : Plan = c.args.plan in
-    let s : List ℕ = c.args.messages.now in
+    let p : Plan = c.args.schedule.plan in
+    let s : List ℕ = c.args.schedule.messages.now in
     let q : Schedule = schedule_of p s in
     let m : ℕ = c.args.first in
     let i : ℕ = c.loop-i.i in
-    omega (arith, c.loop-i.invariant.5.inside, index s (messages-legal q (legal d)) (m + i) c.loop-i.k c.loop-i.due (next-is d) (range d) c.if-minute-due.true)
+    omega (arith, c.loop-i.invariant.4.inside, index s (messages-legal q (legal d)) (m + i) c.loop-i.k c.loop-i.due (next-is d) (range d) c.if-minute-due.true)
 
 pub next_minute-due-requires-then-minute-due : goal.next_minute-due-requires-then-minute-due
 next_minute-due-requires-then-minute-due c =
     let d = (goal.at.next_minute-due-requires-then-minute-due c).In-loop-i in
-    let p : Plan = c.args.plan in
-    let s : List ℕ = c.args.messages.now in
+    let p : Plan = c.args.schedule.plan in
+    let s : List ℕ = c.args.schedule.messages.now in
     let q : Schedule = schedule_of p s in
     let m : ℕ = c.args.first in
     let i : ℕ = c.loop-i.i in (
@@ -160,19 +159,11 @@ next_minute-due-requires-then-minute-due c =
       omega (arith, index s (messages-legal q (legal d)) (m + i) c.loop-i.k c.loop-i.due (next-is d) (range d) c.if-minute-due.true),
     )
 
-pub overflow_add-i : goal.overflow_add-i
-overflow_add-i c =
-    omega (arith, c.loop-i-test.true)
-
-pub loop-i-smaller : goal.loop-i-smaller
-loop-i-smaller c =
-    omega (arith, c.loop-i-test.true)
-
 pub loop-i-preserved : goal.loop-i-preserved
 loop-i-preserved c =
     let d = (goal.at.loop-i-preserved c).In-loop-i in
-    let p : Plan = c.args.plan in
-    let s : List ℕ = c.args.messages.now in
+    let p : Plan = c.args.schedule.plan in
+    let s : List ℕ = c.args.schedule.messages.now in
     let q : Schedule = schedule_of p s in
     let m : ℕ = c.args.first in
     let i : ℕ = c.loop-i.i in
@@ -182,9 +173,9 @@ loop-i-preserved c =
     let next : (ys : List ℕ) (n : ℕ) → n ≡ length_at p (m + i) → ys ≡ frame_of (content_at q (m + i)) ++ drop (length_at p (m + i)) (take (length out - at) (drop at out)) → take at out ++ (ys ++ drop (length out - at) (drop at out)) ≡ recording q m (i + 1) ++ drop (at + n) out₀ = λ ys n en e. tail-back out at ys
     ∙ rw (e, tail out at, add-one i, recording-snoc q m i, en)
     (part-more (recording q m i) (frame_of (content_at q (m + i))) out₀ out at (length_at p (m + i))
-    (length-recording q m i ∙ sym c.loop-i.invariant.1) c.loop-i.invariant.3) in
-    let sum : (n : ℕ) → n ≡ length_at p (m + i) → at + n ≡ seconds p m (i + 1) = λ n e. rw (add-one i) (omega (arith, e, c.loop-i.invariant.1, seconds-snoc p m i)) in
-    let word-now : c.if-minute-day.word ≡ day_word p c.if-minute-day.day = elim c.if-minute-day.branch [ then-minute-day w ↦ w.word-is ∙ w.day_word-word-then-minute-day.ensures ∙ ap (day_word p) (sym w.day-is) | else-minute-day w ↦ w.word-is ∙ c.loop-i.invariant.4 ∙ ap (day_word p) (sym w.day-is) ] in
+    (length-recording q m i ∙ sym c.loop-i.invariant.0) c.loop-i.invariant.2) in
+    let sum : (n : ℕ) → n ≡ length_at p (m + i) → at + n ≡ seconds p m (i + 1) = λ n e. rw (add-one i) (omega (arith, e, c.loop-i.invariant.0, seconds-snoc p m i)) in
+    let word-now : c.if-minute-day.word ≡ day_word p c.if-minute-day.day = elim c.if-minute-day.branch [ then-minute-day w ↦ w.word-is ∙ w.day_word-word-then-minute-day.ensures ∙ ap (day_word p) (sym w.day-is) | else-minute-day w ↦ w.word-is ∙ c.loop-i.invariant.3 ∙ ap (day_word p) (sym w.day-is) ] in
     let next-now : NextIs s (m + (i + 1)) c.if-minute-due.k c.if-minute-due.due = (let ok = messages-legal q (legal d) in
     let a = add_assoc m i 1 in
     elim c.if-minute-due.branch [
@@ -195,7 +186,6 @@ loop-i-preserved c =
     let e : n ≡ length_at p (m + i) = c.write_next-at.ensures.0 in
     let b = next c.write_next-at.new.out n e c.write_next-at.ensures.1 in
     let x = sum n e in (
-      omega (arith, c.loop-i-test.true),
       x,
       ap length b ∙ length_rest (recording q m (i + 1)) out₀ (at + n) (length-recording q m (i + 1) ∙ sym x) (omega (arith, fits d)),
       b,
@@ -205,10 +195,10 @@ loop-i-preserved c =
 
 pub shape_of-out : goal.shape_of-out
 shape_of-out c =
-    c.loop-i.invariant.2
+    c.loop-i.invariant.1
 
 pub returns : goal.returns
 returns c =
     let a = c.args in
     let e : c.loop-i.i ≡ a.count = omega arith in
-    rw (← e, ← c.loop-i.invariant.1) c.loop-i.invariant.3
+    rw (← e, ← c.loop-i.invariant.0) c.loop-i.invariant.2

@@ -1,6 +1,6 @@
 -- `recording::write_frames` meets its contract.
 -- Assumes nothing.
-use Prim.Native.Nat.{◌+◌, ◌-◌, ◌≤◌}
+use Prim.Native.Nat.{◌+◌}
 use mathlib.Core.Path.{◌≡◌}
 use mathlib.Core.List.{◌++◌}
 use lib.ListN.{length, drop}
@@ -12,12 +12,8 @@ use Rattle.recording.proofs.write_frames.Given as goal
 
 abbrev pub invariant-loop-i : goal.invariant-loop-i
 invariant-loop-i l =
-    (l.i ≤ l.count)
-    × (l.at ≡ seconds l.plan l.first l.i)
+    (l.at ≡ seconds l.schedule.plan l.first l.i)
     × (length l.out ≡ length l.initial.out)
-    × (l.out ≡ recording (schedule_of l.plan l.messages) l.first l.i ++ drop l.at l.initial.out)
-    × (l.word ≡ day_word l.plan l.day)
-    × NextIs l.messages (l.first + l.i) l.k l.due
-
-abbrev pub decreases-loop-i : goal.decreases-loop-i
-decreases-loop-i l = l.count - l.i
+    × (l.out ≡ recording (schedule_of l.schedule.plan l.schedule.messages.now) l.first l.i ++ drop l.at l.initial.out)
+    × (l.word ≡ day_word l.schedule.plan l.day)
+    × NextIs l.schedule.messages.now (l.first + l.i) l.k l.due
