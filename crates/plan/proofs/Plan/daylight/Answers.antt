@@ -11,19 +11,19 @@ use Rattle.plan.proofs.Plan.daylight.Goals as goal
 pub daylight_on-requires : goal.daylight_on-requires
 daylight_on-requires c =
     let day = c.args.minute / 1440 in
-    omega (arith, c.year_index-years.ensures, year-index day (placed day (omega arith)))
+    omega (arith, c.year_index.ensures, year-index day (placed day (omega arith)))
 
 pub returns-then-has_changes : goal.returns-then-has_changes
 unfolding daylight_at
 returns-then-has_changes c =
-    rw (← c.has_changes.ensures, c.if-has_changes.true, c.daylight_on.ensures, c.year_index-years.ensures)
+    rw (← c.has_changes.ensures, c.if-has_changes.true, c.daylight_on.ensures, c.year_index.ensures)
 
-pub returns-then-kind-eq1 : goal.returns-then-kind-eq1
+pub returns-then-self-eq1 : goal.returns-then-self-eq1
 unfolding daylight_at
-returns-then-kind-eq1 c =
-    rw (← c.has_changes.ensures, c.if-has_changes.false, eq-eqb _ _ c.if-kind-eq1.true)
+returns-then-self-eq1 c =
+    rw (← c.has_changes.ensures, c.if-has_changes.false, eq-eqb _ _ c.if-self-eq1.true)
 
-pub returns-else-kind-eq1 : goal.returns-else-kind-eq1
+pub returns-else-self-eq1 : goal.returns-else-self-eq1
 unfolding daylight_at
-returns-else-kind-eq1 c =
-    rw (← c.has_changes.ensures, c.if-has_changes.false, ne_eqb _ _ c.if-kind-eq1.false)
+returns-else-self-eq1 c =
+    rw (← c.has_changes.ensures, c.if-has_changes.false, ne_eqb _ _ c.if-self-eq1.false)

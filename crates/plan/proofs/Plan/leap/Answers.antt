@@ -9,12 +9,7 @@ use Rattle.calendar.specs.Calendar.{month_index}
 use Rattle.codewords.specs.CodeWords.{leap_number}
 use Rattle.plan.proofs.Laws.{of-bits, leap-in-month, leap-elsewhere, leap-unsigned}
 use Rattle.plan.proofs.Plan.leap.Goals as goal
-
-pub returns-then-self-eq0 : goal.returns-then-self-eq0
-returns-then-self-eq0 c =
-    let a = c.args in
-    let fits : SFits w32 a.self.leap_sign = search rules in
-    sym (ap leap_number (leap-unsigned a.self a.minute (of-bits _ 0 fits c.if-self-eq0.true)))
+use Rattle.plan.proofs.Plan.leap.Goals.{else-self-ne0-via-then-self-ne0+else-month_index-self, else-self-ne0-via-else-self-ne0}
 
 pub returns-then-month_index-self : goal.returns-then-month_index-self
 returns-then-month_index-self c =
@@ -23,7 +18,14 @@ returns-then-month_index-self c =
     let month : month_index a.minute ≡ a.self.leap_month = sym c.month_index.ensures ∙ c.if-month_index-self.true in
     rw (leap-in-month a.self a.minute month, c.leap_of.ensures, to_z-of_z fits)
 
-pub returns-else-month_index-self : goal.returns-else-month_index-self
-returns-else-month_index-self c =
+-- another month, or a plan with no leap second
+pub returns-else-self-ne0 : goal.returns-else-self-ne0
+returns-else-self-ne0 c =
     let a = c.args in
-    sym (ap leap_number (leap-elsewhere a.self a.minute (λ e. c.if-month_index-self.false (c.month_index.ensures ∙ e))))
+    let fits : SFits w32 a.self.leap_sign = search rules in
+    elim c.else-self-ne0.branch [
+      | else-self-ne0-via-then-self-ne0+else-month_index-self w ↦
+          sym (ap leap_number (leap-elsewhere a.self a.minute (λ e. w.if-month_index-self.false (w.month_index.ensures ∙ e))))
+      | else-self-ne0-via-else-self-ne0 w ↦
+          sym (ap leap_number (leap-unsigned a.self a.minute (of-bits _ 0 fits w.if-self-ne0.false)))
+    ]

@@ -2,9 +2,9 @@
 -- Assumes nothing.
 use Prim.Native.Nat.{◌/◌}
 use mathlib.Core.Logic.{inr}
-use mathlib.Core.Path.{sym, ◌∙◌}
+use mathlib.Core.Path.{◌≡◌, sym, ◌∙◌}
 use native.Mathlib.Omega.{arith}
-use borrow.Author.Tests.{eq-eqb, ne_eqb}
+use borrow.Author.Tests.{ne_eqb}
 use Rattle.gregorian.proofs.Months.{placed, year-index}
 use Rattle.plan.specs.Plan.{has_changes, row_for}
 use Rattle.plan.proofs.Earlier.{with-changes}
@@ -14,25 +14,29 @@ use Rattle.plan.proofs.Plan.row_for.Goals as goal
 pub row_on-requires : goal.row_on-requires
 row_on-requires c =
     let day = c.args.minute / 1440 in
-    omega (arith, c.year_index-years.ensures, year-index day (placed day (omega arith)))
+    omega (arith, c.year_index.ensures, year-index day (placed day (omega arith)))
 
-pub returns-then-kind-eq0 : goal.returns-then-kind-eq0
-returns-then-kind-eq0 c =
+pub returns-in-0 : goal.returns-in-0
+returns-in-0 c =
     let a = c.args in
-    c.next_row.ensures ∙ sym (row-for-0 a.self c.if-kind-eq0.true a.minute a.daylight)
+    let e : a.self.kind ≡ 0 = omega arith in
+    c.next_row.ensures ∙ sym (row-for-0 a.self e a.minute a.daylight)
 
-pub returns-then-kind-eq3 : goal.returns-then-kind-eq3
+pub returns-in-3 : goal.returns-in-3
 unfolding row_for
-returns-then-kind-eq3 c =
+returns-in-3 c =
     let a = c.args in
-    rw (with-changes a.self (inr c.if-kind-eq3.true), ← c.year_index-years.ensures, c.row_on.ensures)
+    let e : a.self.kind ≡ 3 = omega arith in
+    rw (with-changes a.self (inr e), ← c.year_index.ensures, c.row_on.ensures)
 
-pub returns-then-kind-eq1 : goal.returns-then-kind-eq1
+pub returns-in-1 : goal.returns-in-1
 unfolding row_for has_changes
-returns-then-kind-eq1 c =
-    rw (ne_eqb _ _ c.if-kind-eq0.false, ne_eqb _ _ c.if-kind-eq3.false, eq-eqb _ _ c.if-kind-eq1.true)
+returns-in-1 c =
+    let e : c.args.self.kind ≡ 1 = omega arith in
+    rw e
 
-pub returns-else-kind-eq1 : goal.returns-else-kind-eq1
+pub returns-in_default : goal.returns-in_default
 unfolding row_for has_changes
-returns-else-kind-eq1 c =
-    rw (ne_eqb _ _ c.if-kind-eq0.false, ne_eqb _ _ c.if-kind-eq3.false, ne_eqb _ _ c.if-kind-eq1.false)
+returns-in_default c =
+    let k = c.args.self.kind in
+    rw (ne_eqb k 0 (λ e. omega arith), ne_eqb k 3 (λ e. omega arith), ne_eqb k 1 (λ e. omega arith))
