@@ -32,18 +32,19 @@ fits :
 fits c = months-short (first_year + c.args.years) (c.loop-i.i + 1) (omega arith)
 
 pub overflow_add-sum : goal.overflow_add-sum
-overflow_add-sum c = omega (arith, step c, fits c)
+overflow_add-sum c = omega (arith, step (goal.at.overflow_add-sum c).In-loop-i, fits (goal.at.overflow_add-sum c).In-loop-i)
 
 pub loop-i-preserved : goal.loop-i-preserved
 loop-i-preserved c =
     let inv = c.loop-i.invariant in
     let i = c.loop-i.i in
+    let sum = sym (step (goal.at.loop-i-preserved c).In-loop-i) in
     let starts = c.loop-i.starts in (
       omega arith,
       length-set starts (i + 1) _ ∙ inv.1,
       inv.2,
-      sym (step c),
-      filled (months_of (first_year + c.args.years)) starts (i + 1) _ (omega arith) (λ k l. inv.4 k (omega arith)) (sym (step c)),
+      sum,
+      filled (months_of (first_year + c.args.years)) starts (i + 1) _ (omega arith) (λ k l. inv.4 k (omega arith)) sum,
     )
 
 pub returns : goal.returns
