@@ -7,9 +7,10 @@ use mathlib.Core.Path.{◌≡◌, refl, sym, ap, ◌∙◌}
 use native.Mathlib.Nat.{pow-suc}
 use native.Mathlib.Omega.{arith}
 use lib.Dec.{ltb, eqb}
-use lib.ListN.{replicate}
+use lib.ListN.{length, drop, set, replicate}
 use borrow.Author.Tests.{ltb-true, ltb-false, ne_eqb}
 use Rattle.bits.specs.Bits.{pick}
+use Rattle.bits.proofs.Slices.{drop-set}
 use Rattle.decimal.specs.Decimal.{width, digits, decimal}
 use Rattle.decimal.proofs.Laws.{width-more}
 use Rattle.page_rules.specs.Page.{blanks, aligned}
@@ -19,6 +20,14 @@ use Rattle.page_rules.proofs.Cells.{aligned-small}
 unfoldable pub blank_digits : ℕ → ℕ → List ℕ
 blank_digits zero n = []
 blank_digits (suc k) n = blank_digits k (n / 10) ++ (pick (eqb n 0) 32 (48 + n % 10) ∷ [])
+
+-- one cell more in front of those that stand
+pub cells-next : (out : List ℕ) (i left : ℕ) → i < length out
+    → blank_digits (suc i) left ++ drop (suc i) out ≡ blank_digits i (left / 10) ++ drop i (set out i (pick (eqb left 0) 32 (48 + left % 10)))
+unfolding blank_digits
+cells-next out i left h =
+    rw (drop-set out i (pick (eqb left 0) 32 (48 + left % 10)) h)
+    (append_assoc (blank_digits i (left / 10)) (pick (eqb left 0) 32 (48 + left % 10) ∷ []) (drop (suc i) out))
 
 abbrev Blanks : ℕ → List ℕ
 Blanks k = replicate k 32
@@ -56,3 +65,14 @@ aligned-cells (suc c) n h = go (ltb n 10) refl (λ k. aligned-cells c (n / 10) k
         let d = ne_eqb (n / 10) 0 (λ z. omega (arith, z)) in
         let s : blank_digits c (n / 10 / 10) ++ ((48 + n / 10 % 10) ∷ []) ≡ blank_digits (suc c) (n / 10) = rw d in
         aligned-more (suc c) n l ∙ ap (λ (w : List ℕ). w ++ ((48 + n % 10) ∷ [])) (r q ∙ s)
+
+-- a number in all columns but the last, by its cells
+pub column-is : (k n end : ℕ) → 2 ≤ k → n < 10 ^ (k - 1)
+    → blank_digits (k - 2) (n / 10) ++ ((48 + n % 10) ∷ end ∷ []) ≡ aligned (k - 1) n ++ (end ∷ [])
+column-is zero n end h l = absurd (omega arith)
+column-is (suc zero) n end h l = absurd (omega arith)
+column-is (suc (suc k)) n end h l =
+    let two : suc (suc k) - 2 ≡ k = omega arith in
+    let one : suc (suc k) - 1 ≡ suc k = omega arith in
+    rw (two, one, aligned-cells k n (rw one at l))
+    (sym (append_assoc (blank_digits k (n / 10)) ((48 + n % 10) ∷ []) (end ∷ [])))

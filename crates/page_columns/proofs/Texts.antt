@@ -32,17 +32,6 @@ pub aligned-2 : (n : ℕ) → n < 100 → aligned 2 n ≡ cell (n / 10) ∷ (48 
 unfolding blank_digits
 aligned-2 n h = aligned-cells 1 n h
 
-pub aligned-8 : (n : ℕ) → n < 100000000 → aligned 8 n
-    ≡ cell (n / 10000000) ∷ cell (n / 1000000) ∷ cell (n / 100000) ∷ cell (n / 10000) ∷ cell (n / 1000) ∷ cell (n / 100) ∷ cell (n / 10) ∷ (48 + n % 10) ∷ []
-unfolding blank_digits
-aligned-8 n h = simp div-div-eq-div-mul at (aligned-cells 7 n h)
-
-pub aligned-10 : (n : ℕ) → n < 10000000000 → aligned 10 n
-    ≡ cell (n / 1000000000) ∷ cell (n / 100000000) ∷ cell (n / 10000000) ∷ cell (n / 1000000) ∷ cell (n / 100000) ∷ cell (n / 10000) ∷ cell (n / 1000)
-    ∷ cell (n / 100) ∷ cell (n / 10) ∷ (48 + n % 10) ∷ []
-unfolding blank_digits
-aligned-10 n h = simp div-div-eq-div-mul at (aligned-cells 9 n h)
-
 -- more columns on the left
 aligned-wider : (c d n : ℕ) → width n ≤ d → aligned (c + d) n ≡ blanks c ++ aligned d n
 unfolding aligned blanks

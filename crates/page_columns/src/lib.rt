@@ -1,7 +1,7 @@
 // The columns of a page's lines, each with the blank or the line feed after it.
 #![tactic(auto)]
 
-ghost use Rattle.std.specs.Prelude.{◌≡◌, [], ◌∷◌, ◌++◌, ◌+◌, ◌%◌, ◌≤◌, ◌<◌, eqb, length};
+ghost use Rattle.std.specs.Prelude.{◌≡◌, [], ◌∷◌, ◌++◌, ◌+◌, ◌-◌, ◌%◌, ◌^◌, ◌≤◌, ◌<◌, eqb, length};
 ghost use Rattle.bits.specs.Bits.{pick};
 ghost use Rattle.messages.specs.Bytes.{big_endian};
 ghost use Rattle.format.specs.Entry.{entry_size};
@@ -17,13 +17,6 @@ const DASH: u8 = b'-';
 
 const LINE_FEED: u8 = b'\n';
 
-// A byte as a number of 32 bits.
-pub fn wide(x: u8) -> u32
-    ensures { (result ≡ x) × (result < 256) }
-{
-    x as u32
-}
-
 // The last digit of a number.
 fn digit(n: u32) -> u8
     ensures { result ≡ 48 + n % 10 }
@@ -35,10 +28,7 @@ fn digit(n: u32) -> u8
 fn digit_or_blank(left: u32) -> u8
     ensures { result ≡ pick (eqb left 0) 32 (48 + left % 10) }
 {
-    if left == 0 {
-        return BLANK;
-    }
-    digit(left)
+    if left == 0 { BLANK } else { digit(left) }
 }
 
 // The last bit of a number as a digit.
@@ -52,31 +42,28 @@ fn bit(n: u8) -> u8
 fn leap_sign(leap: u8) -> u8
     ensures { result ∷ [] ≡ leap_text leap }
 {
-    if leap == 0 {
-        return BLANK;
+    match leap {
+        0 => BLANK,
+        1 => DASH,
+        _ => b'+',
     }
-    if leap == 1 {
-        return DASH;
-    }
-    b'+'
 }
 
-// A minute in 8 columns, and a blank.
-pub fn minute_column(n: u32) -> [u8; 9]
-    requires { n < 100000000 }
-    ensures { result ≡ aligned 8 n ++ (32 ∷ []) }
+// A number right-aligned in all columns but the last, and what ends it in that one.
+pub fn column<const N: usize>(n: u32, end: u8) -> [u8; N]
+    requires two { 2 ≤ N }
+    requires fits { n < 10 ^ (N - 1) }
+    ensures { result ≡ aligned (N - 1) n ++ (end ∷ []) }
 {
-    [
-        digit_or_blank(n / 10_000_000),
-        digit_or_blank(n / 1_000_000),
-        digit_or_blank(n / 100_000),
-        digit_or_blank(n / 10_000),
-        digit_or_blank(n / 1000),
-        digit_or_blank(n / 100),
-        digit_or_blank(n / 10),
-        digit(n),
-        BLANK,
-    ]
+    let mut column = [BLANK; N];
+    column[N - 1] = end;
+    column[N - 2] = digit(n);
+    let mut left = n / 10;
+    for i in (0..N - 2).rev() {
+        column[i] = digit_or_blank(left);
+        left /= 10;
+    }
+    column
 }
 
 // A date and its time, and a blank after each.
@@ -104,14 +91,6 @@ pub fn moment_columns(d: Date) -> [u8; 17]
     ]
 }
 
-// A length in 2 columns, and a blank.
-pub fn length_column(n: u32) -> [u8; 3]
-    requires { n < 100 }
-    ensures { result ≡ aligned 2 n ++ (32 ∷ []) }
-{
-    [digit_or_blank(n / 10), digit(n), BLANK]
-}
-
 // The columns of a time frame after the length, and a line feed.
 fn time_columns(entry: &[u8]) -> [u8; 13]
     requires { (length entry.now ≡ entry_size) × Fits (entry_in entry.now) }
@@ -119,9 +98,9 @@ fn time_columns(entry: &[u8]) -> [u8; 13]
 {
     let daylight = entry[5];
     let leap = entry[6];
-    let row = wide(entry[7]);
-    let place = wide(entry[9]);
-    let echo = wide(entry[10]);
+    let row = u32::from(entry[7]);
+    let place = u32::from(entry[9]);
+    let echo = u32::from(entry[10]);
     [
         bit(daylight / 2),
         bit(daylight),
@@ -159,26 +138,5 @@ pub fn minute_in(entry: &[u8]) -> u32
     requires { 4 ≤ length entry.now }
     ensures { result ≡ big_endian entry.now 0 4 }
 {
-    let high = wide(entry[0]) * 256 + wide(entry[1]);
-    let low = wide(entry[2]) * 256 + wide(entry[3]);
-    high * 65536 + low
-}
-
-// A page number in 10 columns, and a line feed.
-pub fn number_column(n: u32) -> [u8; 11]
-    ensures { result ≡ feed (aligned 10 n) }
-{
-    [
-        digit_or_blank(n / 1_000_000_000),
-        digit_or_blank(n / 100_000_000),
-        digit_or_blank(n / 10_000_000),
-        digit_or_blank(n / 1_000_000),
-        digit_or_blank(n / 100_000),
-        digit_or_blank(n / 10_000),
-        digit_or_blank(n / 1000),
-        digit_or_blank(n / 100),
-        digit_or_blank(n / 10),
-        digit(n),
-        LINE_FEED,
-    ]
+    u32::from_be_bytes([entry[0], entry[1], entry[2], entry[3]])
 }

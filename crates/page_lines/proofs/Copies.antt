@@ -1,16 +1,23 @@
--- A text copied into a buffer.
+-- Texts copied into a buffer, one after the other.
 -- Assumes nothing.
-use Prim.Native.Nat.{ℕ, ◌-◌, ◌≤◌}
-use mathlib.Core.List.{List, ◌++◌}
-use mathlib.Core.Path.{◌≡◌}
-use lib.ListN.{length, take, drop}
+use Prim.Native.Nat.{ℕ, ◌+◌, ◌≤◌}
+use mathlib.Core.List.{List, ◌++◌, append_assoc}
+use mathlib.Core.Path.{◌≡◌, refl, sym, ap₂, ◌∙◌}
+use lib.ListN.{length, drop, length-append}
+use lib.Seq.{take-append_seam, drop-append_seam, drop-drop}
+use borrow.Rule.Slice.PartMut.{put_mid}
 use Rattle.sequence.proofs.Putting.{Put}
 
--- a list with another at a place, as it comes back from a call that was lent the rest
-abbrev pub put_at : ℕ → List ℕ → List ℕ → List ℕ
-put_at at ys out = take at out ++ (ys ++ drop (length out - at) (drop at out))
+-- the first text
+pub put-first : (n : ℕ) (before ys : List ℕ) → length ys ≡ n → n ≤ length before → Put ys before (ys ++ drop n before) n
+put-first n before ys l h = record { size = l; room = h; is = refl }
 
--- a copy of a text
-pub copied : {text before after : List ℕ} (n : ℕ) → length text ≡ n → n ≤ length before
-    → after ≡ text ++ drop (length text) before → Put text before after n
-copied n l h e = record { size = l; room = h; is = rw l at e }
+-- the next one
+pub put-next : {text before after : List ℕ} {a : ℕ} (n : ℕ) (ys : List ℕ) → Put text before after a → length ys ≡ n → a + n ≤ length before
+    → Put (text ++ ys) before (put_mid a n after ys) (a + n)
+put-next {text} {before} {after} {a} n ys p l h =
+    record {
+      size = length-append text ys ∙ ap₂ ◌+◌ p.size l;
+      room = h;
+      is = rw (p.is, ← p.size, take-append_seam, drop-append_seam, p.size, drop-drop n a before) (sym (append_assoc text ys (drop (a + n) before)));
+    }

@@ -36,12 +36,9 @@ pub fn put_head(number: u32, out: &mut [u8])
     ensures { out.new
         ≡ feed (aligned 41 number) ++ feed (replicate 41 45) ++ drop 84 out.old }
 {
-    let margin = [BLANK; 31];
-    let column = page_columns::number_column(number);
-    let dashes = line_of(DASH);
-    spans::copy(&margin, out);
-    spans::copy(&column, &mut out[31..]);
-    spans::copy(&dashes, &mut out[LINE_SIZE..]);
+    out[..31].fill(BLANK);
+    out[31..LINE_SIZE].copy_from_slice(&page_columns::column::<11>(number, LINE_FEED));
+    out[LINE_SIZE..HEAD_SIZE].copy_from_slice(&line_of(DASH));
 }
 
 // Writes the line of an entry of 18 bytes to the front of out.
@@ -50,14 +47,11 @@ pub fn put_line(entry: &[u8], out: &mut [u8])
     ensures { out.new ≡ feed (line (entry_in entry.now)) ++ drop 42 out.old }
 {
     let minute = page_columns::minute_in(entry);
-    let first = page_columns::minute_column(minute);
-    let moment = page_columns::moment_columns(Date::at_minute(minute));
-    let length = page_columns::length_column(page_columns::wide(entry[4]));
-    let last = page_columns::last_columns(entry);
-    spans::copy(&first, out);
-    spans::copy(&moment, &mut out[9..]);
-    spans::copy(&length, &mut out[26..]);
-    spans::copy(&last, &mut out[29..]);
+    let seconds = u32::from(entry[4]);
+    out[..9].copy_from_slice(&page_columns::column::<9>(minute, BLANK));
+    out[9..26].copy_from_slice(&page_columns::moment_columns(Date::at_minute(minute)));
+    out[26..29].copy_from_slice(&page_columns::column::<3>(seconds, BLANK));
+    out[29..LINE_SIZE].copy_from_slice(&page_columns::last_columns(entry));
 }
 
 // Writes a blank line to the front of out.
@@ -65,5 +59,5 @@ pub fn put_blank(out: &mut [u8])
     requires { 42 ≤ length out.old }
     ensures { out.new ≡ feed (blanks 41) ++ drop 42 out.old }
 {
-    spans::copy(&line_of(BLANK), out);
+    out[..LINE_SIZE].copy_from_slice(&line_of(BLANK));
 }

@@ -13,4 +13,4 @@ returns c =
     (next c.digit_or_blank.ensures (next c.digit.ensures (next refl
     (next c.digit_or_blank-2.ensures (next c.digit-2.ensures (next refl (next c.digit-3.ensures refl)))))))))))
     ∙ time-is (entry_in a) c.leap_sign.result _ _ _ c.requires.1 c.leap_sign.ensures
-    c.wide-row.ensures.0 c.wide-place.ensures.0 c.wide-echo.ensures.0
+    c.from-row.ensures c.from-place.ensures c.from-echo.ensures
