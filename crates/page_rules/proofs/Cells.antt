@@ -47,7 +47,7 @@ unfoldable pub is_visible : ℕ → Bool
 is_visible b = leb 32 b
 
 pub visible-many : (k b : ℕ) → 32 ≤ b → all is_visible (replicate k b) ≡ true
-unfolding all is_visible
+unfolding is_visible
 visible-many zero b h = refl
 visible-many (suc k) b h = and-true (le-leb 32 b h) (visible-many k b h)
 
@@ -56,7 +56,7 @@ visible-one b h = visible-many 1 b h
 
 pub visible-digits : (k n : ℕ) → all is_visible (digits k n) ≡ true
 unfolding digits
-visible-digits zero n = unfold all in refl
+visible-digits zero n = refl
 visible-digits (suc k) n =
     all_append is_visible (digits k (n / 10)) ((48 + n % 10) ∷ []) (visible-digits k (n / 10)) (visible-one (48 + n % 10) (omega arith))
 

@@ -135,7 +135,7 @@ leap-visible (suc (suc n)) = visible-one _ (omega arith)
 
 spaced-visible : (cs : List (List ℕ)) → Every Visible cs → Visible (spaced cs)
 unfolding spaced
-spaced-visible [] h = unfold all in refl
+spaced-visible [] h = refl
 spaced-visible (c ∷ []) h = h.0
 spaced-visible (c ∷ d ∷ cs) h =
     let blank : Visible (32 ∷ []) = visible-one 32 (omega arith) in

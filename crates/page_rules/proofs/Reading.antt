@@ -13,7 +13,6 @@ use lib.ListN.{length, drop, length-drop, drop_of_length-le}
 use lib.Seq.{drop-drop}
 use borrow.Author.Tests.{eqb-true, eqb-false}
 use Rattle.questions.specs.Questions.{one_of}
-use Rattle.bits.specs.Bits.{all}
 use Rattle.format.specs.Entry.{Entry, entry_size}
 use Rattle.format.specs.Message.{is_message}
 use Rattle.format.specs.Questions.{start, after, entry_next}
@@ -55,8 +54,8 @@ module _
 
 -- those of both kinds of frames
 both-kinds : (b : Bool) (n : ℕ) → one_of (next_numbers b) n ≡ true → one_of page_numbers n ≡ true
-both-kinds true n h = among (next_numbers true) page_numbers n (unfold all one_of in refl) h
-both-kinds false n h = among (next_numbers false) page_numbers n (unfold all one_of in refl) h
+both-kinds true n h = among (next_numbers true) page_numbers n (unfold one_of in refl) h
+both-kinds false n h = among (next_numbers false) page_numbers n (unfold one_of in refl) h
 
 next-number : (due : Due) (f : List ℕ) (n : ℕ) → read_next due false f ≡ refused n → one_of page_numbers n ≡ true
 next-number due f n h = go (frame-answers due false f)

@@ -1,7 +1,7 @@
 -- Printing a recording as pages (document 02, 8): "The input is a recording; a refused one gives its number and prints nothing".
 -- Assumes nothing.
 use Rattle.std.specs.Prelude.{ℕ, List, [], ◌∷◌, ◌++◌, leb, eqb, length, drop}
-use Rattle.questions.specs.Questions.{Question, asked}
+use Rattle.questions.specs.Questions.{asked}
 use Rattle.bits.specs.Bits.{pick}
 use Rattle.format.specs.Entry.{Entry}
 use Rattle.format.specs.Questions.{start}
