@@ -3,10 +3,14 @@
 use Prim.Native.Nat.{ℕ, suc, ◌-◌, ◌/◌, ◌≤◌, ◌<◌}
 use mathlib.Core.Bool.{Bool, false}
 use mathlib.Core.List.{List, ◌++◌}
-use mathlib.Core.Path.{◌≡◌, refl, sym, ◌∙◌}
+use mathlib.Core.Path.{◌≡◌, refl, sym, ap, ◌∙◌}
 use native.Mathlib.Decide.{dec_le}
 use native.Mathlib.Omega.{arith}
 use lib.ListN.{length, drop}
+use Rattle.std.specs.Prelude.{Result, Ok, Err}
+use Rattle.std.specs.Result.{IsErrAnd}
+use Rattle.questions.specs.declared.Refusal.{Refusal}
+use Rattle.questions.specs.Refusals.{refusal_number}
 use Rattle.format.specs.Entry.{Entry, entry_size, entry_bytes}
 use Rattle.format.specs.Questions.{after}
 use Rattle.format.specs.Next.{Answer, refused, entry, due_after_answer, OneOutcome, one_outcome, read_next, read_entry}
@@ -14,7 +18,8 @@ use Rattle.format.specs.declared.Due.{Due}
 use Rattle.format.proofs.One.{no-5, yes-5}
 use Rattle.sequence.specs.Reading.{stop, read_frames}
 use Rattle.sequence.proofs.Steps.{no-space, frame_refused}
-use Rattle.entries.specs.Answer.{Progress, halt, advance, progress}
+use Rattle.entries.specs.Answer.{Progress, halt, advance, progress, step_numbers}
+use Rattle.entries.specs.declared.Advance.{Advance}
 
 pub halted : (due : Due) (a : Answer) (n : ℕ) → halt n ≡ progress due a → a ≡ refused n
 halted due (refused m) n h = cc
@@ -30,6 +35,11 @@ pub record Advanced (due : Due) (a : Answer) (n : ℕ) (d : Due) : Type 0 where
 pub advanced : (due : Due) (a : Answer) (n : ℕ) (d : Due) → advance n d ≡ progress due a → Advanced due a n d
 advanced due (refused m) n d h = let z : ◌≡◌ {A = ℕ} 0 1 = cc in absurd (omega arith)
 advanced due (entry e) n d h = record { taken = e; is = refl; bits = cc; next = cc }
+
+-- a step that passes a refusal on
+pub passed-on : (r : Result Advance Refusal) (x : Refusal) → IsErrAnd r (λ e. e ≡ x) → step_numbers r ≡ halt (refusal_number x)
+passed-on (Ok s) x h = absurd h
+passed-on (Err e) x h = ap (λ (y : Refusal). halt (refusal_number y)) h
 
 -- ---- the step, from the next frame's answer
 

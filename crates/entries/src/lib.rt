@@ -16,50 +16,33 @@ ghost use Rattle.entries.specs.Answer.{step_numbers, progress, end_number, end_o
 use calendar::Date;
 use codewords::State;
 use format::Due;
-use frame::{Fields, FrameAnswer, LEAP_UNKNOWN, Refusal, Told};
+use frame::{Fields, Frame, LEAP_UNKNOWN, Told};
+use questions::Refusal;
 
-// How a reading ended.
-#[derive(Clone, Copy)]
-pub enum End {
-    Complete,
-    Refused(Refusal),
-}
-
-// The entries written, the bits that they took, the end, and the state after them.
+// The entries written, the bits that they took, how the reading ended, and the state after them.
 #[derive(Clone, Copy)]
 pub struct Summary {
     pub entries: usize,
     pub used: usize,
-    pub end: End,
+    pub end: Result<(), Refusal>,
     pub due: Due,
 }
 
 // How the reading of one frame ended, and the state after it.
 #[derive(Clone, Copy)]
 pub struct One {
-    pub end: End,
+    pub end: Result<(), Refusal>,
     pub due: Due,
 }
 
-// What the step of reading came to: the frame's number of bits, with the minute that is due after it and the leap state
-// last read in the month of that minute; or the refusal. The three numbers stand side by side: a Due for the last two
-// would be stored in pieces and loaded as a whole, and each frame would wait for it.
+// What an accepted frame advances the reading by: its number of bits, with the minute that is due after it and the leap
+// state last read in the month of that minute. The three numbers stand side by side: a Due for the last two would be
+// stored in pieces and loaded as a whole, and each frame would wait for it.
 #[derive(Clone, Copy)]
-enum Step {
-    Advance(u8, u32, u8),
-    Halt(Refusal),
-}
-
-impl End {
-    // The refusal's number, or 0.
-    pub fn number(self) -> u32
-        ensures { result ≡ end_number self }
-    {
-        match self {
-            End::Complete => 0,
-            End::Refused(refusal) => refusal.number(),
-        }
-    }
+struct Advance {
+    length: u8,
+    minute: u32,
+    leap: u8,
 }
 
 // The bytes of an entry.
@@ -70,19 +53,15 @@ fn put_entry(state: State, fields: Fields, out: &mut [u8])
     requires { entry_size ≤ length out.old }
     ensures { out.new ≡ entry_bytes (entry_from state fields) ++ drop entry_size out.old }
 {
-    let minute = fields.minute;
-    let daylight = state.daylight;
-    let daylight = codewords::daylight_number(daylight);
-    let leap = state.leap;
-    let leap = codewords::leap_number(leap);
+    let minute = fields.minute.to_be_bytes();
     let entry: [u8; ENTRY_SIZE] = [
-        (minute / 0x100_0000 % 256) as u8,
-        (minute / 0x1_0000 % 256) as u8,
-        (minute / 0x100 % 256) as u8,
-        (minute % 256) as u8,
+        minute[0],
+        minute[1],
+        minute[2],
+        minute[3],
         fields.length,
-        daylight,
-        leap,
+        u8::from(state.daylight),
+        u8::from(state.leap),
         fields.row,
         fields.notice,
         fields.place,
@@ -95,7 +74,7 @@ fn put_entry(state: State, fields: Fields, out: &mut [u8])
         0,
         0,
     ];
-    spans::copy(&entry, out);
+    out[..ENTRY_SIZE].copy_from_slice(&entry);
 }
 
 // Writes the entry of a message to the front of out.
@@ -103,13 +82,13 @@ fn put_message(told: Told, out: &mut [u8])
     requires { entry_size ≤ length out.old }
     ensures { out.new ≡ entry_bytes (message_entry told.minute told.length told.notice told.payload) ++ drop entry_size out.old }
 {
-    let minute = told.minute;
-    let payload = told.payload;
+    let minute = told.minute.to_be_bytes();
+    let payload = told.payload.to_be_bytes();
     let entry: [u8; ENTRY_SIZE] = [
-        (minute / 0x100_0000 % 256) as u8,
-        (minute / 0x1_0000 % 256) as u8,
-        (minute / 0x100 % 256) as u8,
-        (minute % 256) as u8,
+        minute[0],
+        minute[1],
+        minute[2],
+        minute[3],
         told.length,
         0,
         0,
@@ -118,14 +97,14 @@ fn put_message(told: Told, out: &mut [u8])
         0,
         1,
         1,
-        (payload / 0x100_0000_0000 % 256) as u8,
-        (payload / 0x1_0000_0000 % 256) as u8,
-        (payload / 0x100_0000 % 256) as u8,
-        (payload / 0x1_0000 % 256) as u8,
-        (payload / 0x100 % 256) as u8,
-        (payload % 256) as u8,
+        payload[2],
+        payload[3],
+        payload[4],
+        payload[5],
+        payload[6],
+        payload[7],
     ];
-    spans::copy(&entry, out);
+    out[..ENTRY_SIZE].copy_from_slice(&entry);
 }
 
 // The leap state last read in the month of the minute that is due.
@@ -134,7 +113,7 @@ fn leap_read(due: Due) -> u8
 {
     match due {
         Due::Any => LEAP_UNKNOWN,
-        Due::Minute(minute, leap) => leap,
+        Due::Minute(_, leap) => leap,
     }
 }
 
@@ -143,43 +122,46 @@ fn leap_after(minute: u32, leap: u8) -> u8
     ensures { result ≡ pick (last_of_month minute) unknown leap }
 {
     if Date::is_last_of_month(minute) {
-        return LEAP_UNKNOWN;
+        LEAP_UNKNOWN
+    } else {
+        leap
     }
-    leap
 }
 
 // The leap state after a time frame.
 fn leap_after_time(minute: u32, state: State) -> u8
     ensures { result ≡ pick (last_of_month minute) unknown (leap_number state.leap) }
 {
-    let leap = state.leap;
-    leap_after(minute, codewords::leap_number(leap))
+    leap_after(minute, u8::from(state.leap))
 }
 
 // The step of reading: the next frame in a state, alone or of a recording, to the front of out as an entry of 18 bytes.
-fn read_entry(bits: &[u8], alone: bool, due: Due, out: &mut [u8]) -> Step
+fn read_entry(bits: &[u8], alone: bool, due: Due, out: &mut [u8]) -> Result<Advance, Refusal>
     ensures { (step_numbers result
         ≡ progress due (read_entry due alone (length out.old) bits.now))
         × (out.new
         ≡ (one_outcome out.old (read_entry due alone (length out.old) bits.now)).buffer) }
 {
     if out.len() < ENTRY_SIZE {
-        return Step::Halt(Refusal::EntrySpace);
+        return Err(Refusal::NoEntrySpace);
     }
-    let answer = reader::read_next(bits, alone, due);
-    match answer {
-        FrameAnswer::Refused(refusal) => Step::Halt(refusal),
-        FrameAnswer::Read(state, fields) => {
+    let frame = reader::read_next(bits, alone, due)?;
+    match frame {
+        Frame::Time(state, fields) => {
             put_entry(state, fields, out);
-            let leap = leap_after_time(fields.minute, state);
-            let next = fields.minute + 1;
-            Step::Advance(fields.length, next, leap)
+            Ok(Advance {
+                length: fields.length,
+                minute: fields.minute + 1,
+                leap: leap_after_time(fields.minute, state),
+            })
         }
-        FrameAnswer::Message(told) => {
+        Frame::Message(told) => {
             put_message(told, out);
-            let leap = leap_after(told.minute, leap_read(due));
-            let next = told.minute + 1;
-            Step::Advance(told.length, next, leap)
+            Ok(Advance {
+                length: told.length,
+                minute: told.minute + 1,
+                leap: leap_after(told.minute, leap_read(due)),
+            })
         }
     }
 }
@@ -190,15 +172,14 @@ pub fn read_one(bits: &[u8], entry: &mut [u8], due: Due) -> One
         ≡ read_one due entry.old bits.now)
         × (result.due ≡ one_due due entry.old bits.now) }
 {
-    let step = read_entry(bits, true, due, entry);
-    match step {
-        Step::Halt(refusal) => One {
-            end: End::Refused(refusal),
-            due,
+    match read_entry(bits, true, due, entry) {
+        Ok(step) => One {
+            end: Ok(()),
+            due: Due::Minute(step.minute, step.leap),
         },
-        Step::Advance(length, minute, leap) => One {
-            end: End::Complete,
-            due: Due::Minute(minute, leap),
+        Err(refusal) => One {
+            end: Err(refusal),
+            due,
         },
     }
 }
@@ -209,32 +190,31 @@ pub fn read_from(bits: &[u8], entries: &mut [u8], due: Due) -> Summary
         ≡ read_from due entries.old bits.now)
         × (result.due ≡ due_from due entries.old bits.now) }
 {
-    let mut used: usize = 0;
-    let mut count: usize = 0;
+    let mut used = 0;
+    let mut count = 0;
     let mut next = due;
     while used < bits.len() {
         let from = count * ENTRY_SIZE;
-        let step = read_entry(&bits[used..], false, next, &mut entries[from..]);
-        match step {
-            Step::Halt(refusal) => {
+        match read_entry(&bits[used..], false, next, &mut entries[from..]) {
+            Ok(step) => {
+                used += step.length as usize;
+                count += 1;
+                next = Due::Minute(step.minute, step.leap);
+            }
+            Err(refusal) => {
                 return Summary {
                     entries: count,
                     used,
-                    end: End::Refused(refusal),
+                    end: Err(refusal),
                     due: next,
                 };
-            }
-            Step::Advance(length, minute, leap) => {
-                used += length as usize;
-                count += 1;
-                next = Due::Minute(minute, leap);
             }
         }
     }
     Summary {
         entries: count,
         used,
-        end: End::Complete,
+        end: Ok(()),
         due: next,
     }
 }

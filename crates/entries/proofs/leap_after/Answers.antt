@@ -6,5 +6,5 @@ use Rattle.entries.proofs.leap_after.Goals as goal
 pub returns-then-is_last_of_month : goal.returns-then-is_last_of_month
 returns-then-is_last_of_month c = rw (sym c.is_last_of_month.ensures ∙ c.if-is_last_of_month.true)
 
-pub returns : goal.returns
-returns c = rw (sym c.is_last_of_month.ensures ∙ c.if-is_last_of_month.false)
+pub returns-else-is_last_of_month : goal.returns-else-is_last_of_month
+returns-else-is_last_of_month c = rw (sym c.is_last_of_month.ensures ∙ c.if-is_last_of_month.false)

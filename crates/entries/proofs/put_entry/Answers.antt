@@ -5,4 +5,4 @@ use Rattle.entries.proofs.put_entry.Goals as goal
 
 pub returns : goal.returns
 unfolding entry_bytes
-returns c = rw (c.daylight_number-daylight.ensures, c.leap_number-leap.ensures) at c.copy.ensures
+returns c = rw (c.copy_from_slice.ensures.after, c.to_be_bytes-minute.ensures, c.from.ensures, c.from-2.ensures)

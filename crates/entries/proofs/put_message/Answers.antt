@@ -6,4 +6,4 @@ use Rattle.entries.proofs.put_message.Goals as goal
 
 pub returns : goal.returns
 unfolding entry_bytes message_entry
-returns c = c.copy.ensures
+returns c = rw (c.copy_from_slice.ensures.after, c.to_be_bytes-minute.ensures, c.to_be_bytes-payload.ensures)
