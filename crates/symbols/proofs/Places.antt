@@ -48,7 +48,7 @@ less n m = go (leb n m) refl
 -- n bits, and a rest whose kinds are known
 bits_each : (n : ℕ) (s ks : List ℕ) (f : List ℕ → Bool) → ((t : List ℕ) → f t ≡ each ks t)
     → (leb n (length s) && all is_bit (take n s) && f (drop n s)) ≡ each (replicate n 1 ++ ks) s
-unfolding all is_bit each is_kind
+unfolding each is_kind
 bits_each zero s ks f h = rw (le-leb 0 (length s) (omega arith)) (h s)
 bits_each (suc n) [] ks f h = rw (lt-leb (suc n) 0 (omega arith))
 bits_each (suc n) (x ∷ s) ks f h =
