@@ -22,19 +22,26 @@ use Rattle.amplitude_rules.specs.declared.Fields.{Fields}
 use Rattle.amplitude_rules.specs.declared.Values.{Values}
 use Rattle.amplitude_rules.proofs.Facts.{real, layout, legal-through, sign-legal, mark-small}
 use Rattle.amplitude_row.specs.declared.Row.{Row}
-use Rattle.amplitude_row.specs.declared.LayoutAnswer.{LayoutAnswer}
-use Rattle.amplitude_row.specs.declared.LayoutAnswer.TheVariants.{Fits, NoLayout}
+use Rattle.std.specs.Prelude.{Result, Ok, Err}
+use Rattle.questions.specs.Refusals.{refusal_number}
+use Rattle.questions.specs.declared.Refusal.{Refusal}
+use Rattle.questions.specs.declared.Refusal.TheVariants.{IllegalPlan, BadCount, MinuteTooLarge, NoBitSpace, NoEntrySpace, TooShort, NotBits}
+use Rattle.questions.specs.declared.Refusal.TheVariants.{BadSync, BadState, BadNextChange, BadMinute, BadLength, OutOfOrder, NotADate}
+use Rattle.questions.specs.declared.Refusal.TheVariants.{BadSetting, BadSymbols, BadValue, FirstMessage, UnknownLength, BadSecond}
 use Rattle.amplitude_row.specs.Row.{row_numbers, layout_answer, layout_questions, layout_reading}
 use Rattle.amplitude_reader.specs.Answer.{numbers_questions, numbers_reading}
 
 -- a year's length by its leap-year mark
-pub year-length : (y : ℕ) → year_length y ≡ 365 + leap_mark y
+pub year_days : (y : ℕ) → year_length y ≡ 365 + leap_mark y
 unfolding year_length months_of leap_mark before month_lengths
-year-length y = go (leap_year y)
+year_days y = go (leap_year y)
   where
     go : (b : Bool) → before (month_lengths b) 12 ≡ 365 + pick b 1 0
     go true = refl
     go false = refl
+
+pub mark_small : (y : ℕ) → leap_mark y < 2
+mark_small y = omega (arith, mark-small y)
 
 -- a sign as a signed number of 32 bits
 pub sign-through : (b : ℕ) → to_z w32 (of_z w32 (sign_of b)) ≡ sign_of b
@@ -53,7 +60,7 @@ bounds x hy h =
     let r = real x h in
     record {
       low = r.low;
-      high = omega (arith, r.high, year-length (first_year + x.year), mark-small (first_year + x.year));
+      high = omega (arith, r.high, year_days (first_year + x.year), mark-small (first_year + x.year));
       hour = r.hour;
       minute = r.minute;
       days = rw (before-closed x.year (omega arith)) (omega arith);
@@ -95,20 +102,45 @@ some : (v w : List ℕ) (b : Bool) → found v ≡ pick b (found w) (refusedAlon
 some v w true e = (refl, ap (λ (n : Numbers). n.values) e)
 some v w false e = let z : ◌≡◌ {A = ℕ} 0 17 = ap (λ (n : Numbers). n.number) e in absurd (omega arith)
 
-none : (w : List ℕ) (b : Bool) → refusedAlone 17 ≡ pick b (found w) (refusedAlone 17) → b ≡ false
-none w true e = let z : ◌≡◌ {A = ℕ} 17 0 = ap (λ (n : Numbers). n.number) e in absurd (omega arith)
-none w false e = refl
+none : (k : ℕ) (w : List ℕ) (b : Bool) → 0 < k → refusedAlone k ≡ pick b (found w) (refusedAlone 17) → (b ≡ false) × (k ≡ 17)
+none k w true h e = let z : ◌≡◌ {A = ℕ} k 0 = ap (λ (n : Numbers). n.number) e in absurd (omega arith)
+none k w false h e = (refl, ap (λ (n : Numbers). n.number) e)
 
-module _ (s : List ℕ) (r : LayoutAnswer) (e : layout_answer r ≡ layout_reading s) where
+-- no refusal has number 0
+some_number : (e : Refusal) → 0 < refusal_number e
+some_number IllegalPlan = omega arith
+some_number BadCount = omega arith
+some_number MinuteTooLarge = omega arith
+some_number NoBitSpace = omega arith
+some_number NoEntrySpace = omega arith
+some_number TooShort = omega arith
+some_number NotBits = omega arith
+some_number BadSync = omega arith
+some_number BadState = omega arith
+some_number BadNextChange = omega arith
+some_number BadMinute = omega arith
+some_number BadLength = omega arith
+some_number OutOfOrder = omega arith
+some_number NotADate = omega arith
+some_number BadSetting = omega arith
+some_number BadSymbols = omega arith
+some_number BadValue = omega arith
+some_number FirstMessage = omega arith
+some_number UnknownLength = omega arith
+some_number BadSecond = omega arith
+
+module _ (s : List ℕ) (r : Result Row Refusal) (e : layout_answer r ≡ layout_reading s) where
   answer-is : layout_reading s ≡ pick (layout_fits s) (found (numbers_in s)) (refusedAlone 17)
   unfolding layout_reading layout_questions asked
   answer-is = refl
 
-  pub no-layout : r ≡ NoLayout → refused 17 ≡ read_amplitude s
+  pub no-layout : (x : Refusal) → r ≡ Err x → refused (refusal_number x) ≡ read_amplitude s
   unfolding read_amplitude read_questions asked
-  no-layout q = rw (none (numbers_in s) (layout_fits s) (ap layout_answer (sym q) ∙ e ∙ answer-is))
+  no-layout x q =
+      let n = none (refusal_number x) (numbers_in s) (layout_fits s) (some_number x) (ap layout_answer (sym q) ∙ e ∙ answer-is) in
+      rw (n.0, n.1)
 
-  module _ (d : Row) (q : r ≡ Fits d) where
+  module _ (d : Row) (q : r ≡ Ok d) where
     both : (layout_fits s ≡ true) × (row_numbers d ≡ numbers_in s)
     both = some (row_numbers d) (numbers_in s) (layout_fits s) (ap layout_answer (sym q) ∙ e ∙ answer-is)
 

@@ -1,86 +1,56 @@
 // The amplitude code, read one minute a call.
 #![tactic(auto)]
 
-ghost use Rattle.std.specs.Prelude.{◌≡◌, true, ◌||◌, ◌+◌, ◌*◌, ◌<◌, eqb};
-ghost use Rattle.gregorian.specs.Gregorian.{year_count};
+ghost use Rattle.std.specs.Prelude.{◌≡◌, true, ◌&&◌, ◌||◌, ◌+◌, ◌*◌, ◌<◌, eqb, leb};
+ghost use Rattle.gregorian.specs.Gregorian.{first_year, year_count, year_length};
 ghost use Rattle.calendar.specs.Calendar.{last_of_month};
 ghost use Rattle.amplitude_rules.specs.Amplitude.{plus_bits, minus_bits, length_fits};
 ghost use Rattle.amplitude_rules.specs.Reading.{fields_from, sign_of, values_of, decimal_digits, real_fields, read_amplitude};
 ghost use Rattle.amplitude_row.specs.Row.{row_numbers};
 ghost use Rattle.amplitude_reader.specs.Answer.{answer_of, numbers_reading};
 
-use amplitude_row::{LayoutAnswer, MINUS, PLUS, Row};
+use amplitude_row::{MINUS, PLUS, Row};
 use amplitude_rules::{Fields, Values};
 use calendar::Date;
 use plan::{MAX_FRAME, MIN_FRAME, USUAL_FRAME};
-
-// The values of the symbols, or the question that was answered no: 17 and 18.
-#[derive(Clone, Copy)]
-pub enum ReadAnswer {
-    Read(Values),
-    BadSymbols,
-    BadValue,
-}
+use questions::Refusal;
 
 // Whether the digits are decimal; those of two and three bits cannot be above 9.
+#[tactic(auto, unfolding(amplitude_rules::specs::Reading::decimal_digits))]
 fn has_decimal_digits(d: Row) -> bool
     ensures { result ≡ decimal_digits (row_numbers d) }
 {
-    if 9 < d.minute_units {
-        return false;
-    }
-    if 9 < d.hour_units {
-        return false;
-    }
-    if 9 < d.day_tens {
-        return false;
-    }
-    if 9 < d.day_units {
-        return false;
-    }
-    if 9 < d.tenths {
-        return false;
-    }
-    if 9 < d.year_tens {
-        return false;
-    }
-    d.year_units <= 9
-}
-
-fn wide(x: u8) -> u32
-    ensures { result ≡ x }
-{
-    x as u32
+    d.minute_units <= 9
+        && d.hour_units <= 9
+        && d.day_tens <= 9
+        && d.day_units <= 9
+        && d.tenths <= 9
+        && d.year_tens <= 9
+        && d.year_units <= 9
 }
 
 // The number of two digits.
 fn two(tens: u8, units: u8) -> u32
     ensures { result ≡ tens * 10 + units }
 {
-    tens as u32 * 10 + units as u32
-}
-
-// The number of three digits.
-fn three(hundreds: u8, tens: u8, units: u8) -> u32
-    ensures { result ≡ hundreds * 100 + tens * 10 + units }
-{
-    hundreds as u32 * 100 + tens as u32 * 10 + units as u32
+    u32::from(tens) * 10 + u32::from(units)
 }
 
 // The fields of the numbers of a row.
+#[tactic(auto, unfolding(amplitude_rules::specs::Reading::fields_from))]
 fn fields_from(d: Row) -> Fields
     ensures { result ≡ fields_from (row_numbers d) }
 {
     Fields {
         minute: two(d.minute_tens, d.minute_units),
         hour: two(d.hour_tens, d.hour_units),
-        day: three(d.day_hundreds, d.day_tens, d.day_units),
-        sign: wide(d.sign),
-        tenths: wide(d.tenths),
+        day: u32::from(d.day_hundreds) * 100 + two(d.day_tens, d.day_units),
+        sign: u32::from(d.sign),
+        tenths: u32::from(d.tenths),
         year: two(d.year_tens, d.year_units),
-        leap: wide(d.leap),
-        warning: wide(d.warning),
-        daylight: wide(d.daylight),
+        leap: u32::from(d.leap),
+        warning: u32::from(d.warning),
+        daylight: u32::from(d.daylight),
     }
 }
 
@@ -88,36 +58,31 @@ fn fields_from(d: Row) -> Fields
 fn is_sign(bits: u32) -> bool
     ensures { result ≡ (eqb bits plus_bits || eqb bits minus_bits) }
 {
-    if bits == PLUS {
-        return true;
-    }
-    bits == MINUS
+    matches!(bits, PLUS | MINUS)
+}
+
+// Whether the year has the day.
+#[tactic(auto, using(crate::proofs::Reading::mark_small))]
+fn has_real_day(x: Fields) -> bool
+    ensures { result ≡ (leb 1 x.day && leb x.day (year_length (first_year + x.year))) }
+{
+    (1..=365 + amplitude_row::leap_mark(x.year)).contains(&x.day)
 }
 
 // Whether the fields are real, with the year's leap-year mark.
+#[tactic(auto, unfolding(amplitude_rules::specs::Reading::real_fields))]
 fn has_real_fields(x: Fields) -> bool
     ensures { result ≡ real_fields x }
 {
-    if !is_sign(x.sign) {
-        return false;
-    }
-    if 60 <= x.minute {
-        return false;
-    }
-    if 24 <= x.hour {
-        return false;
-    }
-    if x.day < 1 {
-        return false;
-    }
-    let mark = amplitude_row::leap_mark(x.year);
-    if 365 + mark < x.day {
-        return false;
-    }
-    x.leap == mark
+    is_sign(x.sign)
+        && x.minute < 60
+        && x.hour < 24
+        && has_real_day(x)
+        && x.leap == amplitude_row::leap_mark(x.year)
 }
 
 // The UT1 sign of its bits.
+#[tactic(auto, unfolding(amplitude_rules::specs::Reading::sign_of))]
 fn sign_of(bits: u32) -> i32
     ensures { result ≡ sign_of bits }
 {
@@ -141,47 +106,40 @@ fn values_of(x: Fields, seconds: u32) -> Values
 }
 
 // Whether a minute may have so many seconds.
+#[tactic(auto, unfolding(amplitude_rules::specs::Amplitude::length_fits))]
 fn length_fits(minute: u32, warning: u32, seconds: u32) -> bool
     ensures { result ≡ length_fits (last_of_month minute) warning seconds }
 {
-    if warning != 1 {
-        return seconds == USUAL_FRAME;
+    if warning == 1 && Date::is_last_of_month(minute) {
+        matches!(seconds, MIN_FRAME | MAX_FRAME)
+    } else {
+        seconds == USUAL_FRAME
     }
-    if !Date::is_last_of_month(minute) {
-        return seconds == USUAL_FRAME;
-    }
-    if seconds == MIN_FRAME {
-        return true;
-    }
-    seconds == MAX_FRAME
 }
 
 // Question 18, and the values of the numbers of a row.
-fn read_numbers(d: Row, seconds: u32) -> ReadAnswer
+fn read_numbers(d: Row, seconds: u32) -> Result<Values, Refusal>
     ensures { answer_of result ≡ numbers_reading (row_numbers d) seconds }
 {
     if !has_decimal_digits(d) {
-        return ReadAnswer::BadValue;
+        return Err(Refusal::BadValue);
     }
     let x = fields_from(d);
     if !has_real_fields(x) {
-        return ReadAnswer::BadValue;
+        return Err(Refusal::BadValue);
     }
     let values = values_of(x, seconds);
     if length_fits(values.minute, values.warning, values.seconds) {
-        ReadAnswer::Read(values)
+        Ok(values)
     } else {
-        ReadAnswer::BadValue
+        Err(Refusal::BadValue)
     }
 }
 
 // Reads one minute.
-pub fn read_minute(symbols: &[u8]) -> ReadAnswer
+pub fn read_minute(symbols: &[u8]) -> Result<Values, Refusal>
     ensures { answer_of result ≡ read_amplitude symbols.now }
 {
-    let answer = amplitude_row::read_layout(symbols);
-    match answer {
-        LayoutAnswer::Fits(row) => read_numbers(row, symbols.len() as u32),
-        LayoutAnswer::NoLayout => ReadAnswer::BadSymbols,
-    }
+    let row = amplitude_row::read_layout(symbols)?;
+    read_numbers(row, symbols.len() as u32)
 }

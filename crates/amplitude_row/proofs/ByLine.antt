@@ -1,21 +1,21 @@
 -- The layout by lines, each a marker and bits: which numbers of lines have it, the numbers in them, and the row of numbers as lines.
 -- Assumes nothing.
 use Prim.Native.Nat.{ℕ, zero, suc, ◌+◌, ◌-◌, ◌*◌, ◌/◌, ◌%◌, ◌^◌, ◌≤◌, ◌<◌}
-use mathlib.Core.Bool.{Bool, true, false, ◌&&◌, and-false, false≢true}
+use mathlib.Core.Bool.{Bool, true, false, ◌&&◌, false≢true}
 use mathlib.Core.List.{List, [], ◌∷◌, ◌++◌}
 use mathlib.Core.Path.{◌≡◌, refl, sym, ap, ◌∙◌}
-use native.Mathlib.Nat.{add-zero}
 use native.Mathlib.Omega.{arith}
 use lib.Dec.{T, eqb}
 use lib.ListN.{length, take, drop, get_or, length-drop, drop_of_length-le}
-use lib.Seq.{get_or-take, get_or-drop, length-take-le, drop-drop}
+use Rattle.std.specs.Prelude.{Option, Some, None}
+use Rattle.std.proofs.Common.{take_all}
+use Rattle.std.specs.Option.{unwrap_or}
+use lib.Seq.{length-take-le, drop-drop}
 use borrow.Author.Tests.{eq-eqb, ne_eqb, eqb-true}
 use Rattle.bits.specs.Bits.{pick, bit, bits, number, is_bit, all}
 use Rattle.bits.specs.Gathered.{gathered}
-use Rattle.bits.specs.declared.Gathered.TheVariants.{Word, NotBits}
 use Rattle.bits.proofs.Bits.{number_lt}
-use Rattle.bits.proofs.Gathering.{gathered-word, gathered_none}
-use Rattle.bits.proofs.Parts.{bits-take, part-take, length_part, drop-take}
+use Rattle.bits.proofs.Parts.{bits-take, part-take, length_part}
 use Rattle.bits.proofs.Tests.{and_left, and_right, upto, upto-at, binary, all-binary, same_test, same_test_lem}
 use Rattle.timeword.specs.TimeWord.{same}
 use Rattle.timeword.proofs.Invert.{same→eq}
@@ -28,34 +28,16 @@ use Rattle.amplitude_rules.specs.Reading.{is_mark, numbers_in}
 use Rattle.amplitude_rules.specs.declared.Fields.{Fields}
 use Rattle.amplitude_rules.proofs.Digits.{next}
 use Rattle.amplitude_row.specs.declared.Lines.{Lines}
-use Rattle.amplitude_row.specs.Row.{lines_of, line_symbols, no_line, line_number, lines_in, blanks_of, numbers_of_lines}
+use Rattle.amplitude_row.specs.Row.{lines_of, line_symbols, line_number, six_lines, lines_in, blanks_of, numbers_of_lines}
 
--- ---- the number of a line, of what its marker's place and the gathered bits show
+-- ---- a line's number, where it has one, or nine ones, which no line of the layout has
 
-module _ (s : List ℕ) (a b : ℕ) (h : a < b) where
-  abbrev whole : List ℕ
-  whole = take (b - a) (drop a s)
+abbrev no_line : ℕ
+no_line = 0b111111111
 
-  abbrev after : List ℕ
-  after = take (b - (a + 1)) (drop (a + 1) s)
-
-  head-is : get_or whole 0 0 ≡ get_or s a 0
-  head-is = rw (get_or-take (b - a) (drop a s) 0 0 (omega arith), get_or-drop a s 0 0, add-zero a)
-
-  tail-is : drop 1 whole ≡ after
-  tail-is = let e : b - a ≡ 1 + (b - (a + 1)) = omega arith in rw (e, ← drop-drop 1 a s) (drop-take 1 (b - (a + 1)) (drop a s))
-
-  pub no-mark : is_mark (get_or s a 0) ≡ false → no_line ≡ line_number whole
-  unfolding line_number
-  no-mark t = rw (head-is, t)
-
-  pub no_bits : gathered after ≡ NotBits → no_line ≡ line_number whole
-  unfolding line_number
-  no_bits g = rw (tail-is, gathered_none after g, and-false (is_mark (get_or whole 0 0)))
-
-  pub mark-and-bits : (n : ℕ) → is_mark (get_or s a 0) ≡ true → gathered after ≡ Word n → n ≡ line_number whole
-  unfolding line_number
-  mark-and-bits n t g = let r = gathered-word after n g in rw (head-is, t, tail-is, r.0) (sym r.1)
+-- the number, or nine ones
+abbrev number_or : Option ℕ → ℕ
+number_or o = unwrap_or o no_line
 
 -- ---- a line by its number, tested at every number
 
@@ -100,18 +82,31 @@ module _ (l : Line) (w : List ℕ) (k : length (drop 1 w) ≡ width l.parts) whe
       go true e = sym (all-binary (drop 1 w) (plain-binary l.parts (drop 1 w) l.plain e)) ∙ q
       go false e = refl
 
-  line_reads : Reads (mark ∷ l.parts) w (l.blanks (line_number w)) (l.values (line_number w))
-  unfolding fits numbers line_number
+  line_reads : Reads (mark ∷ l.parts) w (l.blanks (number_or (line_number w))) (l.values (number_or (line_number w)))
+  unfolding fits numbers line_number gathered
   line_reads = go (is_mark (get_or w 0 0)) (all is_bit (drop 1 w)) refl
     where
       not_none : {A : Type 0} → l.blanks no_line ≡ 0 → A
       not_none z = absurd (false≢true (sym l.none ∙ eq-eqb (l.blanks no_line) 0 z))
 
-      go : (a b : Bool) → all is_bit (drop 1 w) ≡ b → let n = pick (a && b) (number (drop 1 w)) no_line in
+      go : (a b : Bool) → all is_bit (drop 1 w) ≡ b → let n = number_or (pick a (pick b (Some (number (drop 1 w))) None) None) in
           ((a && fits l.parts (drop 1 w)) ≡ eqb (l.blanks n) 0) × (l.blanks n ≡ 0 → numbers l.parts (drop 1 w) ≡ l.values n)
       go true true q = bits-read q
       go true false q = (no-bits-read q ∙ sym l.none, not_none)
       go false b q = (sym l.none, not_none)
+
+-- ---- the number of a line, of what its marker's place and the gathered bits show
+
+module _ (w : List ℕ) where
+  pub no-mark : (get_or w 0 0 ≡ 2 → ⊥) → None ≡ line_number w
+  unfolding line_number
+  no-mark h = rw (ne_eqb (get_or w 0 0) 2 h)
+
+  pub bits-after : (o : Option ℕ) → 0 < length w → get_or w 0 0 ≡ 2 → o ≡ gathered (take (length w - 1) (drop 1 w)) → o ≡ line_number w
+  unfolding line_number
+  bits-after o l h e =
+      let a : take (length w - 1) (drop 1 w) ≡ drop 1 w = take_all (length w - 1) (drop 1 w) (omega (arith, length-drop 1 w)) in
+      e ∙ rw (eq-eqb (get_or w 0 0) 2 h, a)
 
 -- ---- line after line
 
@@ -124,18 +119,18 @@ module _ (s : List ℕ) (h : min_frame ≤ length s) where
   From : ℕ → List Part → ℕ → List ℕ → Type 0
   From a qs y v = Reads qs (drop a (take min_frame s)) y v
 
-  line-from : (l : Line) (a : ℕ) (qs : List Part) (y : ℕ) (v : List ℕ) → let w = suc (width l.parts) in let n = line_number (take w (drop a s)) in
+  line-from : (l : Line) (a : ℕ) (qs : List Part) (y : ℕ) (v : List ℕ) → let w = suc (width l.parts) in let n = number_or (line_number (take w (drop a s))) in
       a + w ≤ min_frame → From (a + w) qs y v → From a (mark ∷ (l.parts ++ qs)) (l.blanks n + y) (l.values n ++ v)
   unfolding From
   line-from l a qs y v inside r =
       let w = suc (width l.parts) in
       let t = drop a (take min_frame s) in
       let p = take w (drop a s) in
-      let x = l.blanks (line_number p) in
+      let x = l.blanks (number_or (line_number p)) in
       let k : w ≤ length t = rw (length-drop a (take min_frame s), length-take-le min_frame s h) (omega arith) in
       let f : take w t ≡ p = part-take min_frame a w s inside in
       let d : drop w t ≡ drop (a + w) (take min_frame s) = drop-drop w a (take min_frame s) in
-      let g : Reads (mark ∷ l.parts) p x (l.values (line_number p)) = line_reads l p (rw (length-drop 1 p, length_part s a w (omega arith)) (omega arith)) in (
+      let g : Reads (mark ∷ l.parts) p x (l.values (number_or (line_number p))) = line_reads l p (rw (length-drop 1 p, length_part s a w (omega arith)) (omega arith)) in (
         rw (f, d, g.0, r.0) at (fits-append (mark ∷ l.parts) qs t k) ∙ joined x y,
         λ z. rw (f, d, g.1 (omega arith), r.1 (omega arith)) at (numbers-append (mark ∷ l.parts) qs t k),
       )
@@ -148,27 +143,27 @@ a-line ps f v p s n t = record { parts = ps; blanks = f; values = v; plain = p; 
 abbrev minute-line : Line
 minute-line =
     a-line (high 3 ∷ blank ∷ high 4 ∷ []) (λ n. n / 16 % 2) (λ n. n / 32 % 8 ∷ n % 16 ∷ []) tt (omega arith) refl
-    (unfold right same_test same fits numbers number bits bit all is_bit in tt)
+    (unfold right same_test same fits numbers number bits bit in tt)
 
 abbrev hour-line : Line
 hour-line =
     a-line (blank ∷ blank ∷ high 2 ∷ blank ∷ high 4 ∷ []) (λ n. n / 128 % 4 + n / 16 % 2) (λ n. n / 32 % 4 ∷ n % 16 ∷ []) tt (omega arith) refl
-    (unfold right same_test same fits numbers number bits bit all is_bit in tt)
+    (unfold right same_test same fits numbers number bits bit in tt)
 
 abbrev sign_line : Line
 sign_line =
     a-line (high 4 ∷ blank ∷ blank ∷ high 3 ∷ []) (λ n. n / 8 % 4) (λ n. n / 32 % 16 ∷ n % 8 ∷ []) tt (omega arith) refl
-    (unfold right same_test same fits numbers number bits bit all is_bit in tt)
+    (unfold right same_test same fits numbers number bits bit in tt)
 
 abbrev tenths-line : Line
 tenths-line =
     a-line (high 4 ∷ blank ∷ high 4 ∷ []) (λ n. n / 16 % 2) (λ n. n / 32 % 16 ∷ n % 16 ∷ []) tt (omega arith) refl
-    (unfold right same_test same fits numbers number bits bit all is_bit in tt)
+    (unfold right same_test same fits numbers number bits bit in tt)
 
 abbrev flags-line : Line
 flags-line =
     a-line (high 4 ∷ blank ∷ high 1 ∷ high 1 ∷ high 2 ∷ []) (λ n. n / 16 % 2) (λ n. n / 32 % 16 ∷ n / 8 % 2 ∷ n / 4 % 2 ∷ (n / 2 % 2 * 2 + n % 2) ∷ []) tt (omega arith) refl
-    (unfold right same_test same fits numbers number bits bit all is_bit in tt)
+    (unfold right same_test same fits numbers number bits bit in tt)
 
 -- ---- the row of numbers, by lines
 
@@ -225,13 +220,41 @@ module _ (x : Fields) (h : Within table1 (digits x)) where
 sum : (a b c d e f : ℕ) → a + (b + (c + (d + (e + (f + 0))))) ≡ a + b + c + d + e + f
 sum a b c d e f = omega arith
 
+abbrev lines_of_options : (a b c d e f : Option ℕ) → Lines
+lines_of_options a b c d e f =
+    record { minute = number_or a; hour = number_or b; days = number_or c; sign = number_or d; tenths = number_or e; flags = number_or f }
+
+all-there : (a b c d e f : Option ℕ) (l : Lines) → six_lines a b c d e f ≡ Some l → lines_of_options a b c d e f ≡ l
+all-there (Some a) (Some b) (Some c) (Some d) (Some e) (Some f) l q = cc
+all-there None b c d e f l q = cc
+all-there (Some a) None c d e f l q = cc
+all-there (Some a) (Some b) None d e f l q = cc
+all-there (Some a) (Some b) (Some c) None e f l q = cc
+all-there (Some a) (Some b) (Some c) (Some d) None f l q = cc
+all-there (Some a) (Some b) (Some c) (Some d) (Some e) None l q = cc
+
+some-blank : (a b c d e f : Option ℕ) → six_lines a b c d e f ≡ None → blanks_of (lines_of_options a b c d e f) ≡ 0 → ⊥
+some-blank (Some a) (Some b) (Some c) (Some d) (Some e) (Some f) q z = cc
+some-blank None b c d e f q z = omega arith
+some-blank (Some a) None c d e f q z = omega arith
+some-blank (Some a) (Some b) None d e f q z = omega arith
+some-blank (Some a) (Some b) (Some c) None e f q z = omega arith
+some-blank (Some a) (Some b) (Some c) (Some d) None f q z = omega arith
+some-blank (Some a) (Some b) (Some c) (Some d) (Some e) None q z = omega arith
+
 module _ (s : List ℕ) (h : min_frame ≤ length s) where
   row-end : From s h min_frame [] 0 []
   unfolding From fits numbers
   row-end = (ap (λ (t : List ℕ). eqb (length t) 0) (drop_of_length-le (take min_frame s) {i = min_frame} (omega (arith, length-take-le min_frame s h))), λ z. refl)
 
-  six-lines : From s h 0 table1 (blanks_of (lines_in s)) (numbers_of_lines (lines_in s))
-  unfolding table1 lines_in
+  -- the lines, with nine ones where there is none
+  lines_or : Lines
+  lines_or =
+      lines_of_options (line_number (take 9 s)) (line_number (take 10 (drop 9 s))) (line_number (take 10 (drop 19 s)))
+      (line_number (take 10 (drop 29 s))) (line_number (take 10 (drop 39 s))) (line_number (take 10 (drop 49 s)))
+
+  six-lines : From s h 0 table1 (blanks_of lines_or) (numbers_of_lines lines_or)
+  unfolding table1 lines_or
   six-lines =
       rw (sum _ _ _ _ _ _) at
       (line-from s h minute-line 0 _ _ _ (omega arith)
@@ -241,11 +264,23 @@ module _ (s : List ℕ) (h : min_frame ≤ length s) where
       (line-from s h tenths-line 39 _ _ _ (omega arith)
       (line-from s h flags-line 49 _ _ _ (omega arith) row-end))))))
 
+  -- where a line has no number, the row doesn't fit
+  pub no_lines : lines_in s ≡ None → fits table1 (take min_frame s) ≡ false
+  unfolding From lines_in lines_or
+  no_lines q =
+      six-lines.0
+      ∙ ne_eqb _ 0 (some-blank (line_number (take 9 s)) (line_number (take 10 (drop 9 s))) (line_number (take 10 (drop 19 s)))
+      (line_number (take 10 (drop 29 s))) (line_number (take 10 (drop 39 s))) (line_number (take 10 (drop 49 s))) q)
+
   -- the row by its lines
-  module _ (l : Lines) (q : l ≡ lines_in s) where
+  module _ (l : Lines) (q : lines_in s ≡ Some l) where
+    lines-are : lines_or ≡ l
+    unfolding lines_in lines_or
+    lines-are = all-there _ _ _ _ _ _ l q
+
     row_reads : Reads table1 (take min_frame s) (blanks_of l) (numbers_of_lines l)
     unfolding From
-    row_reads = rw q six-lines
+    row_reads = rw lines-are at six-lines
 
     pub row_fits_lem : fits table1 (take min_frame s) ≡ eqb (blanks_of l) 0
     row_fits_lem = row_reads.0

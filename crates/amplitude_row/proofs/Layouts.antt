@@ -1,12 +1,14 @@
 -- Question 17 of symbols: what each of its parts decides.
 -- Assumes nothing.
-use Prim.Native.Nat.{ℕ, ◌≤◌, ◌<◌}
-use mathlib.Core.Bool.{true, false, ◌&&◌, and-false}
+use Prim.Native.Nat.{ℕ, ◌-◌, ◌≤◌}
+use mathlib.Core.Bool.{Bool, true, false, ◌&&◌, and-false}
 use mathlib.Core.List.{List}
-use mathlib.Core.Path.{◌≡◌, ap}
+use mathlib.Core.Path.{◌≡◌, refl, sym, ap, ◌∙◌}
+use native.Mathlib.Omega.{arith}
 use lib.Dec.{leb}
-use lib.ListN.{length, take, drop}
-use borrow.Author.Tests.{lt-leb}
+use lib.ListN.{length, take, drop, length-drop}
+use borrow.Author.Tests.{leb-true}
+use Rattle.std.proofs.Common.{take_all}
 use Rattle.bits.specs.Bits.{all}
 use Rattle.bits.specs.Numbers.{found, refused}
 use Rattle.questions.specs.Questions.{asked}
@@ -22,13 +24,22 @@ module _ (s : List ℕ) where
   unfolding layout_reading layout_questions asked
   answered-no h = rw h
 
-  pub too_short : length s < min_frame → refused 17 ≡ layout_reading s
+  pub outside : (min_frame ≤ length s → length s ≤ max_frame → ⊥) → refused 17 ≡ layout_reading s
   unfolding layout_fits
-  too_short h = answered-no (rw (lt-leb min_frame (length s) h))
+  outside h = answered-no (go (leb min_frame (length s)) (leb (length s) max_frame) refl refl)
+    where
+      go : (a b : Bool) → leb min_frame (length s) ≡ a → leb (length s) max_frame ≡ b
+          → (a && b && fits table1 (take min_frame s) && all is_mark (drop min_frame s)) ≡ false
+      go true true p q = absurd (h (leb-true min_frame (length s) p) (leb-true (length s) max_frame q))
+      go true false p q = refl
+      go false b p q = refl
 
-  pub too_long : max_frame < length s → refused 17 ≡ layout_reading s
-  unfolding layout_fits
-  too_long h = answered-no (rw (lt-leb (length s) max_frame h, and-false (leb min_frame (length s))))
+  -- the seconds after second 58
+  pub rest-is : (r : Bool) → r ≡ all is_mark (take (length s - min_frame) (drop min_frame s)) → all is_mark (drop min_frame s) ≡ r
+  rest-is r e =
+      let a : take (length s - min_frame) (drop min_frame s) ≡ drop min_frame s =
+      take_all (length s - min_frame) (drop min_frame s) (omega (arith, length-drop min_frame s)) in
+      sym (e ∙ ap (all is_mark) a)
 
   pub not-marked : all is_mark (drop min_frame s) ≡ false → refused 17 ≡ layout_reading s
   unfolding layout_fits

@@ -31,7 +31,6 @@ use Rattle.amplitude_rules.proofs.Facts.{Legal, legal, legal-values, Real, real,
 use Rattle.amplitude_rules.proofs.ReadBack.{read-values}
 
 marks-only : (s : List ℕ) → all is_mark s ≡ true → replicate (length s) 2 ≡ s
-unfolding all
 marks-only [] h = refl
 marks-only (x ∷ s) h =
     let b = both_true (eqb x 2) (all is_mark s) h in

@@ -24,7 +24,6 @@ use Rattle.amplitude_rules.proofs.Digits.{Small, digits-within, fields-digits}
 use Rattle.amplitude_rules.proofs.Facts.{Legal, lengths, sign-back, sign-real, sign_small, mark-small, layout-fits}
 
 all-marks : (n : ℕ) → all is_mark (replicate n marker) ≡ true
-unfolding all
 all-marks zero = refl
 all-marks (suc n) = all-marks n
 

@@ -25,3 +25,10 @@ pub struct Values {
     pub daylight: u32,
     pub seconds: u32,
 }
+
+// UT1 of a minute: its sign, 1 or -1, and tenths of a second.
+#[derive(Clone, Copy)]
+pub struct Ut1 {
+    pub sign: i32,
+    pub tenths: u32,
+}

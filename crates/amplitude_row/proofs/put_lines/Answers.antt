@@ -5,5 +5,6 @@ use Rattle.amplitude_row.proofs.put_lines.Goals as goal
 
 pub returns : goal.returns
 returns c =
-    lines-put c.args.out.now c.args.l _ _ _ _ _ _ c.put_line.ensures c.put_line-2.ensures c.put_line-3.ensures
-    c.put_line-4.ensures c.put_line-5.ensures c.put_line-6.ensures
+    lines-put c.args.out.now c.args.l c.requires c.put_line.new.line c.put_line-2.new.line c.put_line-3.new.line
+    c.put_line-4.new.line c.put_line-5.new.line c.put_line-6.new.line c.put_line.ensures c.put_line-2.ensures
+    c.put_line-3.ensures c.put_line-4.ensures c.put_line-5.ensures c.put_line-6.ensures
