@@ -9,60 +9,26 @@ ghost use Rattle.messages.specs.Bytes.{schedule_of};
 ghost use Rattle.symbols.specs.Symbols.{marker};
 ghost use Rattle.amplitude_rules.specs.Amplitude.{sign_bits, legal_sign, legal_ut1, legal_values, fields_of, symbols};
 ghost use Rattle.amplitude_rules.specs.Writing.{warning_at, values_at, write_amplitude, symbols_written};
-ghost use Rattle.amplitude_writer.specs.Answer.{write_refusal_number, write_numbers};
+ghost use Rattle.amplitude_writer.specs.Answer.{write_numbers};
 
-use amplitude_row::{LEAP_SECOND, MARKER, MINUS, PLUS, ROW};
-use amplitude_rules::{Fields, Values};
+use amplitude_row::{MARKER, MINUS, PLUS, ROW};
+use amplitude_rules::{Fields, Ut1, Values};
 use calendar::Date;
+use codewords::LeapState;
+use messages::Schedule;
 use plan::Plan;
-
-// The question that was answered no: 1, 3, 18 and 4.
-#[derive(Clone, Copy)]
-pub enum WriteRefusal {
-    IllegalPlan,
-    Minute,
-    Ut1,
-    Space,
-}
-
-// The number of symbols, or the refusal.
-#[derive(Clone, Copy)]
-pub enum WriteAnswer {
-    Written(usize),
-    Refused(WriteRefusal),
-}
-
-impl WriteRefusal {
-    // The number of the question.
-    pub fn number(self) -> u32
-        ensures { result ≡ write_refusal_number self }
-    {
-        match self {
-            WriteRefusal::IllegalPlan => 1,
-            WriteRefusal::Minute => 3,
-            WriteRefusal::Ut1 => 18,
-            WriteRefusal::Space => 4,
-        }
-    }
-}
+use questions::Refusal;
 
 // Question 18 of UT1: its sign and tenths.
-fn is_ut1(sign: i32, tenths: u32) -> bool
-    ensures { result ≡ legal_ut1 sign tenths }
+#[tactic(auto, unfolding(amplitude_rules::specs::Amplitude::legal_ut1, amplitude_rules::specs::Amplitude::legal_sign))]
+fn is_ut1(ut1: Ut1) -> bool
+    ensures { result ≡ legal_ut1 ut1.sign ut1.tenths }
 {
-    if 9 < tenths {
-        return false;
-    }
-    if sign == 1 {
-        return true;
-    }
-    if sign == -1 {
-        return true;
-    }
-    false
+    matches!(ut1.sign, 1 | -1) && ut1.tenths <= 9
 }
 
 // The bits of a UT1 sign, which is legal.
+#[tactic(auto, unfolding(amplitude_rules::specs::Amplitude::sign_bits, amplitude_rules::specs::Amplitude::legal_sign))]
 fn sign_bits(sign: i32) -> u32
     requires { legal_sign sign ≡ true }
     ensures { result ≡ sign_bits sign }
@@ -71,14 +37,11 @@ fn sign_bits(sign: i32) -> u32
 }
 
 // The leap warning of a minute.
+#[tactic(auto, unfolding(amplitude_rules::specs::Writing::warning_at))]
 fn warning(plan: Plan, minute: u32) -> u32
     ensures { result ≡ warning_at plan minute }
 {
-    if codewords::leap_number(plan.leap(minute)) == 0 {
-        0
-    } else {
-        1
-    }
+    u32::from(plan.leap(minute) != LeapState::None)
 }
 
 // The daylight state of a minute, as a number.
@@ -86,18 +49,19 @@ fn daylight(plan: Plan, minute: u32) -> u32
     requires { minute < minute_count }
     ensures { result ≡ daylight_number (daylight_at plan minute) }
 {
-    codewords::daylight_number(plan.daylight(minute)) as u32
+    u32::from(u8::from(plan.daylight(minute)))
 }
 
 // The values that a plan gives a minute, with the caller's UT1.
-fn values_at(plan: Plan, minute: u32, sign: i32, tenths: u32) -> Values
+#[tactic(auto, unfolding(amplitude_rules::specs::Writing::values_at))]
+fn values_at(plan: Plan, minute: u32, ut1: Ut1) -> Values
     requires { minute < minute_count }
-    ensures { result ≡ values_at plan minute sign tenths }
+    ensures { result ≡ values_at plan minute ut1.sign ut1.tenths }
 {
     Values {
         minute,
-        sign,
-        tenths,
+        sign: ut1.sign,
+        tenths: ut1.tenths,
         warning: warning(plan, minute),
         daylight: daylight(plan, minute),
         seconds: plan.length(minute),
@@ -130,14 +94,7 @@ fn put_ends(seconds: usize, out: &mut [u8])
     ensures { out.new
         ≡ take min_frame out.old ++ replicate (seconds - min_frame) marker ++ drop seconds out.old }
 {
-    if seconds <= ROW {
-        return;
-    }
-    out[ROW] = MARKER;
-    if seconds <= LEAP_SECOND {
-        return;
-    }
-    out[LEAP_SECOND] = MARKER;
+    out[ROW..seconds].fill(MARKER);
 }
 
 // Writes the symbols of a minute.
@@ -151,33 +108,30 @@ fn put(r: Values, out: &mut [u8])
 
 // Writes one minute; a refused one leaves the buffer as it was. Of the messages only question 1 is asked.
 pub fn write_minute(
-    plan: Plan,
-    messages: &[u8],
+    schedule: Schedule,
     minute: u32,
-    sign: i32,
-    tenths: u32,
+    ut1: Ut1,
     out: &mut [u8],
-) -> WriteAnswer
-    ensures { (write_numbers result ≡ write_amplitude (schedule_of plan messages.now) minute sign tenths (length out.old))
-        × (out.new ≡ symbols_written (schedule_of plan messages.now) minute sign tenths out.old) }
+) -> Result<usize, Refusal>
+    ensures { (write_numbers result
+        ≡ write_amplitude (schedule_of schedule.entry.plan schedule.entry.messages.now) minute ut1.sign ut1.tenths (length out.old))
+        × (out.new
+        ≡ symbols_written (schedule_of schedule.entry.plan schedule.entry.messages.now) minute ut1.sign ut1.tenths out.old) }
 {
-    if !plan.is_legal() {
-        return WriteAnswer::Refused(WriteRefusal::IllegalPlan);
-    }
-    if !messages::is_legal(messages) {
-        return WriteAnswer::Refused(WriteRefusal::IllegalPlan);
+    if !schedule.is_legal() {
+        return Err(Refusal::IllegalPlan);
     }
     if Date::MINUTES <= minute {
-        return WriteAnswer::Refused(WriteRefusal::Minute);
+        return Err(Refusal::MinuteTooLarge);
     }
-    if !is_ut1(sign, tenths) {
-        return WriteAnswer::Refused(WriteRefusal::Ut1);
+    if !is_ut1(ut1) {
+        return Err(Refusal::BadValue);
     }
-    let values = values_at(plan, minute, sign, tenths);
+    let values = values_at(schedule.plan, minute, ut1);
     let needed = values.seconds as usize;
     if out.len() < needed {
-        return WriteAnswer::Refused(WriteRefusal::Space);
+        return Err(Refusal::NoBitSpace);
     }
     put(values, out);
-    WriteAnswer::Written(needed)
+    Ok(needed)
 }
