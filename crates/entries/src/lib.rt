@@ -20,7 +20,7 @@ use frame::{Fields, Frame, LEAP_UNKNOWN, Told};
 use questions::Refusal;
 
 // The entries written, the bits that they took, how the reading ended, and the state after them.
-#[derive(Clone, Copy)]
+#[derive(Clone, Copy, PartialEq, Eq, Debug)]
 pub struct Summary {
     pub entries: usize,
     pub used: usize,
@@ -29,7 +29,7 @@ pub struct Summary {
 }
 
 // How the reading of one frame ended, and the state after it.
-#[derive(Clone, Copy)]
+#[derive(Clone, Copy, PartialEq, Eq, Debug)]
 pub struct One {
     pub end: Result<(), Refusal>,
     pub due: Due,

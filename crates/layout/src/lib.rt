@@ -87,9 +87,5 @@ pub fn notice_bit(word: u64) -> u8
 pub fn echo_right(word: u64, minute: u32) -> u8
     ensures { result ≡ pick (eqb (get_or (bits min_frame word) 19 0) («minute» % 2)) 1 0 }
 {
-    if echo_bit(word) == (minute % 2) as u64 {
-        1
-    } else {
-        0
-    }
+    u8::from(echo_bit(word) == u64::from(minute % 2))
 }
