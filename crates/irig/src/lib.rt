@@ -2,14 +2,14 @@
 #![tactic(auto)]
 
 ghost use Rattle.std.specs.Prelude.{◌≡◌, ◌≤◌, ◌<◌, length};
-ghost use Rattle.calendar.specs.Calendar.{minute_count};
 ghost use Rattle.messages.specs.Bytes.{schedule_of};
 ghost use Rattle.irig_rules.specs.Irig.{day_of_year, clock_at};
 ghost use Rattle.irig_rules.specs.Reading.{ends_month, real_second, real_clock, read_irig};
 ghost use Rattle.irig_rules.specs.Writing.{write_irig, elements_written};
 ghost use Rattle.irig.specs.Answer.{write_numbers, read_numbers};
 
-use calendar::Date;
+use calendar::Minute;
+use gregorian::Year;
 use irig_row::ELEMENTS;
 use irig_rules::Clock;
 use messages::Schedule;
@@ -25,23 +25,21 @@ pub struct Seconds {
 // ---- writing
 
 // The day of the year of a minute, counted from 1.
-fn day_of_year(minute: u32) -> u32
-    requires { minute < minute_count }
-    ensures { result ≡ day_of_year minute }
+fn day_of_year(minute: Minute) -> u32
+    ensures { result ≡ day_of_year minute.index }
 {
-    let day = minute / 1440;
-    day - gregorian::days_before(gregorian::year_index(day)) + 1
+    let day = minute.index / 1440;
+    day - gregorian::days_before(Year::of_day(day).since_first) + 1
 }
 
 // The time of a second of a minute.
-fn clock_at(minute: u32, second: u32) -> Clock
-    requires { minute < minute_count }
-    ensures { result ≡ clock_at minute second }
+fn clock_at(minute: Minute, second: u32) -> Clock
+    ensures { result ≡ clock_at minute.index second }
 {
     Clock {
         day: day_of_year(minute),
-        hour: minute % 1440 / 60,
-        minute: minute % 60,
+        hour: minute.index % 1440 / 60,
+        minute: minute.index % 60,
         second,
     }
 }
@@ -61,10 +59,8 @@ pub fn write_second(
     if !schedule.is_legal() {
         return Err(Refusal::IllegalPlan);
     }
-    if Date::MINUTES <= minute {
-        return Err(Refusal::MinuteTooLarge);
-    }
-    if schedule.plan.length(minute) <= second {
+    let minute = Minute::try_from(minute)?;
+    if schedule.plan.length(minute.index) <= second {
         return Err(Refusal::BadSecond);
     }
     if out.len() < ELEMENTS {

@@ -3,6 +3,7 @@
 use Prim.Native.Nat.{◌<◌}
 use mathlib.Core.Path.{sym, ap, ◌∙◌}
 use native.Mathlib.Omega.{arith}
+use Rattle.std.proofs.lemmas.Result.{err_from_is_err_and}
 use Rattle.plan.specs.Plan.{length_at}
 use Rattle.irig_rules.specs.Reading.{real_clock}
 use Rattle.irig_rules.proofs.Given.{clock-real}
@@ -12,32 +13,34 @@ use Rattle.irig.proofs.write_second.Goals as goal
 pub returns-then-not-is_legal : goal.returns-then-not-is_legal
 returns-then-not-is_legal c = no-1 _ c.args.minute c.args.second c.args.out.now (sym c.is_legal.ensures ∙ c.if-not-is_legal.true)
 
-pub returns-then-minute-ge-MINUTES : goal.returns-then-minute-ge-MINUTES
-returns-then-minute-ge-MINUTES c =
-    no-3 _ c.args.minute c.args.second c.args.out.now (sym c.is_legal.ensures ∙ c.if-not-is_legal.false) c.if-minute-ge-MINUTES.true
+pub returns-in_err-minute : goal.returns-in_err-minute
+returns-in_err-minute c =
+    let p = err_from_is_err_and c.from_residual.result c.from_residual.ensures.1 in
+    rw (p.1, p.2, c.in_err-minute.ensures.0)
+    (no-3 _ c.args.minute c.args.second c.args.out.now (sym c.is_legal.ensures ∙ c.if-not-is_legal.false) c.in_err-minute.ensures.1)
 
 pub returns-then-length-second : goal.returns-then-length-second
 returns-then-length-second c =
     no-21 _ c.args.minute c.args.second c.args.out.now (sym c.is_legal.ensures ∙ c.if-not-is_legal.false)
-    c.if-minute-ge-MINUTES.false
-    (omega (arith, c.length.ensures, c.if-length-second.true))
+    (omega (arith, c.in_ok-minute.ensures))
+    (omega (arith, (rw c.in_ok-minute.ensures at c.length.ensures), c.if-length-second.true))
 
 pub returns-then-out-lt-ELEMENTS : goal.returns-then-out-lt-ELEMENTS
 returns-then-out-lt-ELEMENTS c =
     no-4 _ c.args.minute c.args.second c.args.out.now (sym c.is_legal.ensures ∙ c.if-not-is_legal.false)
-    c.if-minute-ge-MINUTES.false
-    (omega (arith, c.length.ensures, c.if-length-second.false)) c.if-out-lt-ELEMENTS.true
+    (omega (arith, c.in_ok-minute.ensures))
+    (omega (arith, (rw c.in_ok-minute.ensures at c.length.ensures), c.if-length-second.false)) c.if-out-lt-ELEMENTS.true
 
 pub put_row-requires : goal.put_row-requires
 put_row-requires c =
-    let below : c.args.second < length_at c.args.schedule.plan c.args.minute = omega (arith, c.length.ensures, c.if-length-second.false) in (
-      ap real_clock c.clock_at.ensures ∙ clock-real c.args.schedule.plan c.args.minute c.args.second c.if-minute-ge-MINUTES.false below,
+    let below : c.args.second < length_at c.args.schedule.plan c.args.minute = omega (arith, (rw c.in_ok-minute.ensures at c.length.ensures), c.if-length-second.false) in (
+      ap real_clock (rw c.in_ok-minute.ensures at c.clock_at.ensures) ∙ clock-real c.args.schedule.plan c.args.minute c.args.second (omega (arith, c.in_ok-minute.ensures)) below,
       c.if-out-lt-ELEMENTS.false,
     )
 
 pub returns : goal.returns
 returns c =
     all_yes _ c.args.minute c.args.second c.args.out.now (sym c.is_legal.ensures ∙ c.if-not-is_legal.false)
-    c.if-minute-ge-MINUTES.false
-    (omega (arith, c.length.ensures, c.if-length-second.false)) c.if-out-lt-ELEMENTS.false c.clock_at.result c.put_row.new.out
-    c.clock_at.ensures c.put_row.ensures
+    (omega (arith, c.in_ok-minute.ensures))
+    (omega (arith, (rw c.in_ok-minute.ensures at c.length.ensures), c.if-length-second.false)) c.if-out-lt-ELEMENTS.false c.clock_at.result c.put_row.new.out
+    (rw c.in_ok-minute.ensures at c.clock_at.ensures) c.put_row.ensures
