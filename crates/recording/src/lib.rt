@@ -14,7 +14,7 @@ ghost use Rattle.format.specs.Sending.{day_word};
 ghost use Rattle.sequence.specs.Writing.{max_count, recording, seconds, write_result, buffer_written};
 ghost use Rattle.recording.specs.Answer.{write_numbers};
 
-use calendar::Date;
+use calendar::{Date, Minute};
 use messages::Schedule;
 use plan::{Plan, USUAL_FRAME};
 use questions::Refusal;
@@ -36,18 +36,17 @@ fn bits_needed(plan: Plan, first: u32, count: u32) -> usize
 }
 
 // Bits 0 to 58 of what is sent in a minute, as a number: of message k where its minute is due, else of the time frame.
-fn word_sent(schedule: Schedule, k: usize, due: u32, minute: u32, day: u64) -> u64
+fn word_sent(schedule: Schedule, k: usize, due: u32, minute: Minute, day: u64) -> u64
     requires { (legal_schedule (schedule_of schedule.plan schedule.messages.now) ≡ true)
-        × («minute» < minute_count)
-        × NextIs schedule.messages.now «minute» k due
-        × (day ≡ day_word schedule.plan («minute» / 1440)) }
+        × NextIs schedule.messages.now «minute».index k due
+        × (day ≡ day_word schedule.plan («minute».index / 1440)) }
     ensures { (result < 2 ^ min_frame)
-        × (bits min_frame result ++ replicate (length_at schedule.entry.plan «minute» - min_frame) 0
-        ≡ frame_of (content_at (schedule_of schedule.entry.plan schedule.entry.messages.now) «minute»)) }
+        × (bits min_frame result ++ replicate (length_at schedule.entry.plan «minute».index - min_frame) 0
+        ≡ frame_of (content_at (schedule_of schedule.entry.plan schedule.entry.messages.now) «minute».index)) }
 {
-    if minute == due {
+    if minute.index == due {
         let payload = messages::payload_at(schedule.messages, k);
-        frame::message_frame(schedule.plan, minute, payload)
+        frame::message_frame(schedule.plan, minute.index, payload)
     } else {
         frame::time_frame(schedule.plan, minute, day)
     }
@@ -58,21 +57,20 @@ fn write_next(
     schedule: Schedule,
     k: usize,
     due: u32,
-    minute: u32,
+    minute: Minute,
     word: u64,
     out: &mut [u8],
 ) -> usize
     requires { (legal_schedule (schedule_of schedule.plan schedule.messages.now) ≡ true)
-        × («minute» < minute_count)
-        × NextIs schedule.messages.now «minute» k due
-        × (word ≡ day_word schedule.plan («minute» / 1440))
-        × (length_at schedule.plan «minute» ≤ length out.old) }
-    ensures { (result ≡ length_at schedule.entry.plan «minute»)
+        × NextIs schedule.messages.now «minute».index k due
+        × (word ≡ day_word schedule.plan («minute».index / 1440))
+        × (length_at schedule.plan «minute».index ≤ length out.old) }
+    ensures { (result ≡ length_at schedule.entry.plan «minute».index)
         × (out.new
-        ≡ frame_of (content_at (schedule_of schedule.entry.plan schedule.entry.messages.now) «minute») ++ drop (length_at schedule.entry.plan «minute») out.old) }
+        ≡ frame_of (content_at (schedule_of schedule.entry.plan schedule.entry.messages.now) «minute».index) ++ drop (length_at schedule.entry.plan «minute».index) out.old) }
 {
     let sent = word_sent(schedule, k, due, minute, word);
-    frame::put_frame(schedule.plan, minute, sent, out)
+    frame::put_frame(schedule.plan, minute.index, sent, out)
 }
 
 // Writes the frames of count minutes from the first on, each directly after the one before. The bits that a day's
@@ -91,13 +89,13 @@ fn write_frames(schedule: Schedule, first: u32, count: u32, out: &mut [u8])
     let mut due = messages::next_minute(schedule.messages, k);
     let mut at = 0;
     for i in 0..count {
-        let minute = first + i;
-        if minute / 1440 != day {
-            day = minute / 1440;
+        let minute = Minute { index: first + i };
+        if minute.index / 1440 != day {
+            day = minute.index / 1440;
             word = frame::day_word(schedule.plan, day);
         }
         at += write_next(schedule, k, due, minute, word, &mut out[at..]);
-        if minute == due {
+        if minute.index == due {
             k += 1;
             due = messages::next_minute(schedule.messages, k);
         }

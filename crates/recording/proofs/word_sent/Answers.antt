@@ -24,19 +24,19 @@ pub payload_at-payload-requires : goal.payload_at-payload-requires
 payload_at-payload-requires c =
     let p : Plan = c.args.schedule.plan in
     let s : List ℕ = c.args.schedule.messages.now in
-    let m : ℕ = c.args.minute in
+    let m : ℕ = c.args.minute.index in
     let messages-ok : legal_messages (messages_in s) ≡ true = messages-legal (schedule_of p s) c.requires.0 in
-    let inside : (e : m ≡ c.args.due) → c.args.k < length s / message_size = λ e. index s messages-ok m c.args.k c.args.due c.requires.2 c.requires.1 e in
+    let inside : (e : m ≡ c.args.due) → c.args.k < length s / message_size = λ e. index s messages-ok m c.args.k c.args.due c.requires.1 c.args.minute.within e in
     omega (arith, inside c.if-minute-due.true)
 
 pub message_frame-requires : goal.message_frame-requires
 message_frame-requires c =
     let p : Plan = c.args.schedule.plan in
     let s : List ℕ = c.args.schedule.messages.now in
-    let m : ℕ = c.args.minute in
+    let m : ℕ = c.args.minute.index in
     let messages-ok : legal_messages (messages_in s) ≡ true = messages-legal (schedule_of p s) c.requires.0 in
     let d : (e : m ≡ c.args.due) → ℕ = λ e. (message_at s c.args.k).payload in
-    let small : (e : m ≡ c.args.due) → d e < 2 ^ 42 = λ e. its-data s messages-ok m c.args.k c.args.due c.requires.2 c.requires.1 e in
+    let small : (e : m ≡ c.args.due) → d e < 2 ^ 42 = λ e. its-data s messages-ok m c.args.k c.args.due c.requires.1 c.args.minute.within e in
     (plan-legal (schedule_of p s) c.requires.0, rw c.payload_at-payload.ensures (small c.if-minute-due.true))
 
 pub returns-then-minute-due : goal.returns-then-minute-due
@@ -44,7 +44,7 @@ unfolding sent_by
 returns-then-minute-due c =
     let p : Plan = c.args.schedule.plan in
     let s : List ℕ = c.args.schedule.messages.now in
-    let m : ℕ = c.args.minute in
+    let m : ℕ = c.args.minute.index in
     let notice : (sent_by p m).notice ≤ 1 = notice-legal p (plan-legal (schedule_of p s) c.requires.0) in
     let d : (e : m ≡ c.args.due) → ℕ = λ e. (message_at s c.args.k).payload in
     let x = sent_by p m in
@@ -53,25 +53,25 @@ returns-then-minute-due c =
     (rw c.payload_at-payload.ensures at c.message_frame.ensures) in (
       rw w (message-lt (d e) (x.minute % 2) x.notice (omega arith) (omega (arith, notice))),
       message-bits x (d e) _ (length_at p m) notice w (refl)
-          ∙ ap frame_of (sym (message-sent p s c.requires.0 m c.args.k c.args.due c.requires.2 c.requires.1 e)),
+          ∙ ap frame_of (sym (message-sent p s c.requires.0 m c.args.k c.args.due c.requires.1 c.args.minute.within e)),
     )
 
 pub time_frame-requires : goal.time_frame-requires
 time_frame-requires c =
     let p : Plan = c.args.schedule.plan in
     let s : List ℕ = c.args.schedule.messages.now in
-    (plan-legal (schedule_of p s) c.requires.0, c.requires.1, c.requires.3)
+    (plan-legal (schedule_of p s) c.requires.0, c.requires.2)
 
 pub returns-else-minute-due : goal.returns-else-minute-due
 unfolding sent_by
 returns-else-minute-due c =
     let p : Plan = c.args.schedule.plan in
     let s : List ℕ = c.args.schedule.messages.now in
-    let m : ℕ = c.args.minute in
+    let m : ℕ = c.args.minute.index in
     let notice : (sent_by p m).notice ≤ 1 = notice-legal p (plan-legal (schedule_of p s) c.requires.0) in
     let x = sent_by p m in
     let w : c.time_frame.result ≡ number (body_of x) = c.time_frame.ensures in (
       rw w (body-lt x notice),
       frame-bits x _ (length_at p m) notice w (refl)
-          ∙ ap frame_of (sym (time-sent p s c.requires.0 m c.args.k c.args.due c.requires.2 c.if-minute-due.false)),
+          ∙ ap frame_of (sym (time-sent p s c.requires.0 m c.args.k c.args.due c.requires.1 c.if-minute-due.false)),
     )

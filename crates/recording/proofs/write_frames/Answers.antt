@@ -126,7 +126,6 @@ write_next-at-requires c =
     let day-now : c.if-minute-day.day ≡ (m + i) / 1440 = elim c.if-minute-day.branch [ then-minute-day w ↦ w.day-is | else-minute-day w ↦ w.day-is ∙ sym w.if-minute-day.false ] in
     let word-now : c.if-minute-day.word ≡ day_word p c.if-minute-day.day = elim c.if-minute-day.branch [ then-minute-day w ↦ w.word-is ∙ w.day_word-word-then-minute-day.ensures ∙ ap (day_word p) (sym w.day-is) | else-minute-day w ↦ w.word-is ∙ c.loop-i.invariant.3 ∙ ap (day_word p) (sym w.day-is) ] in (
       (legal d),
-      (range d),
       (next-is d),
       word-now ∙ ap (day_word p) day-now,
       rw (tail out at) (omega (arith, fits d, c.loop-i.invariant.1, length-drop at out)),

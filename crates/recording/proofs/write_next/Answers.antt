@@ -10,5 +10,5 @@ use Rattle.recording.proofs.write_next.Goals as goal
 pub returns : goal.returns
 returns c =
     let a = c.args in
-    let n = length_at a.schedule.plan a.minute in
+    let n = length_at a.schedule.plan a.minute.index in
     (c.put_frame.ensures.0, c.put_frame.ensures.1 ∙ ap (λ (l : List ℕ). l ++ drop n a.out.now) c.word_sent-sent.ensures.1)
