@@ -8,7 +8,7 @@ use Rattle.plan.proofs.april_sunday.Goals as goal
 
 pub first_sunday-requires : goal.first_sunday-requires
 first_sunday-requires c =
-    rw c.month_start.ensures (month-start-in-range c.args.years 3 (omega arith) (omega arith))
+    rw c.month_start.ensures (month-start-in-range c.args.year.since_first 3 (omega arith) (omega arith))
 
 pub returns : goal.returns
 unfolding april_sunday

@@ -8,12 +8,12 @@ use Rattle.plan.proofs.autumn_day.Goals as goal
 
 pub first_sunday-requires : goal.first_sunday-requires
 first_sunday-requires c =
-    rw c.month_start.ensures (month-start-in-range c.args.years 10 (omega arith) (omega arith))
+    rw c.month_start.ensures (month-start-in-range c.args.year.since_first 10 (omega arith) (omega arith))
 
 pub overflow_sub-result : goal.overflow_sub-result
 unfolding november_sunday
 overflow_sub-result c =
-    rw (c.first_sunday.ensures, c.month_start.ensures) (omega (arith, november-late c.args.years))
+    rw (c.first_sunday.ensures, c.month_start.ensures) (omega (arith, november-late c.args.year.since_first))
 
 pub overflow_mul-result : goal.overflow_mul-result
 unfolding weeks
@@ -25,4 +25,4 @@ returns c = rw (c.weeks_of.ensures, c.first_sunday.ensures, c.month_start.ensure
 
 pub overflow_add-result : goal.overflow_add-result
 unfolding autumn_day november_sunday
-overflow_add-result c = omega (arith, returns c, autumn-small c.args.row c.args.years (omega arith))
+overflow_add-result c = omega (arith, returns c, autumn-small c.args.row c.args.year.since_first (omega arith))

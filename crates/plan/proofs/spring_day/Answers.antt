@@ -8,7 +8,7 @@ use Rattle.plan.proofs.spring_day.Goals as goal
 
 pub first_sunday-requires : goal.first_sunday-requires
 first_sunday-requires c =
-    rw c.month_start.ensures (month-start-in-range c.args.years 2 (omega arith) (omega arith))
+    rw c.month_start.ensures (month-start-in-range c.args.year.since_first 2 (omega arith) (omega arith))
 
 pub overflow_mul-result : goal.overflow_mul-result
 unfolding weeks
@@ -20,4 +20,4 @@ returns c = rw (c.weeks_of.ensures, c.first_sunday.ensures, c.month_start.ensure
 
 pub overflow_add-result : goal.overflow_add-result
 unfolding spring_day march_sunday
-overflow_add-result c = omega (arith, returns c, spring-small c.args.row c.args.years (omega arith))
+overflow_add-result c = omega (arith, returns c, spring-small c.args.row c.args.year.since_first (omega arith))

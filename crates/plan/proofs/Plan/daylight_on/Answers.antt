@@ -17,7 +17,7 @@ module _ (c : After-autumn_day) where
   plan = c.args.self
 
   abbrev years : ℕ
-  years = c.args.years
+  years = c.args.year.since_first
 
   law : (spring_day_of plan years ≡ april_sunday years) × (autumn_day_of plan years ≡ autumn_day 36 years)
   law = earlier-days plan years (sym c.is_earlier.ensures ∙ c.if-is_earlier.true)
@@ -29,25 +29,26 @@ module _ (c : After-autumn_day) where
   autumn-is = c.autumn_day.ensures ∙ sym law.1
 
 pub changing_on-requires : goal.changing_on-requires
-changing_on-requires c = (
-  omega (arith, spring-is (goal.at.changing_on-requires c).After-autumn_day, spring-day-of-small (plan (goal.at.changing_on-requires c).After-autumn_day) (years (goal.at.changing_on-requires c).After-autumn_day) (omega arith)),
-  omega (arith, autumn-is (goal.at.changing_on-requires c).After-autumn_day, autumn-day-of-small (plan (goal.at.changing_on-requires c).After-autumn_day) (years (goal.at.changing_on-requires c).After-autumn_day) (omega arith)),
-)
+changing_on-requires c =
+    let d = (goal.at.changing_on-requires c).After-autumn_day in (
+      omega (arith, spring-is d, spring-day-of-small (plan d) (years d) (omega arith)),
+      omega (arith, autumn-is d, autumn-day-of-small (plan d) (years d) (omega arith)),
+    )
 
 pub changing_on-requires-else-is_earlier : goal.changing_on-requires-else-is_earlier
 changing_on-requires-else-is_earlier c =
     let a = c.args in (
-      rw c.spring_day-spring.ensures (spring-small a.self.spring a.years (omega arith)),
-      rw c.autumn_day-else-is_earlier.ensures (autumn-small a.self.autumn a.years (omega arith)),
+      rw c.spring_day-spring.ensures (spring-small a.self.spring a.year.since_first (omega arith)),
+      rw c.autumn_day-else-is_earlier.ensures (autumn-small a.self.autumn a.year.since_first (omega arith)),
     )
 
 pub returns-then-is_earlier : goal.returns-then-is_earlier
 returns-then-is_earlier c =
-    let day = c.args.day in
-    c.changing_on.ensures ∙ ap₂ (λ (s e : ℕ). daylight_number (changing s e day)) (spring-is (goal.at.returns-then-is_earlier c).After-autumn_day) (autumn-is (goal.at.returns-then-is_earlier c).After-autumn_day)
+    let d = (goal.at.returns-then-is_earlier c).After-autumn_day in
+    c.changing_on.ensures ∙ ap₂ (λ (s e : ℕ). daylight_number (changing s e c.args.day)) (spring-is d) (autumn-is d)
 
 pub returns-else-is_earlier : goal.returns-else-is_earlier
 returns-else-is_earlier c =
     let a = c.args in
-    let own = own-days a.self a.years (sym c.is_earlier.ensures ∙ c.if-is_earlier.false) in
+    let own = own-days a.self a.year.since_first (sym c.is_earlier.ensures ∙ c.if-is_earlier.false) in
     rw (c.changing_on-else-is_earlier.ensures, c.spring_day-spring.ensures, c.autumn_day-else-is_earlier.ensures, own.0, own.1)

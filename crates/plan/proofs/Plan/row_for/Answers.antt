@@ -1,33 +1,26 @@
 -- `plan::Plan::row_for` meets its contract.
 -- Assumes nothing.
-use Prim.Native.Nat.{◌/◌}
 use mathlib.Core.Logic.{inr}
 use mathlib.Core.Path.{◌≡◌, sym, ◌∙◌}
 use native.Mathlib.Omega.{arith}
 use borrow.Author.Tests.{ne_eqb}
-use Rattle.gregorian.proofs.Months.{placed, year-index}
 use Rattle.plan.specs.Plan.{has_changes, row_for}
 use Rattle.plan.proofs.Earlier.{with-changes}
 use Rattle.plan.proofs.RowSent.{row-for-0}
 use Rattle.plan.proofs.Plan.row_for.Goals as goal
 
-pub row_on-requires : goal.row_on-requires
-row_on-requires c =
-    let day = c.args.minute / 1440 in
-    omega (arith, c.year_index.ensures, year-index day (placed day (omega arith)))
-
 pub returns-in-0 : goal.returns-in-0
 returns-in-0 c =
     let a = c.args in
     let e : a.self.kind ≡ 0 = omega arith in
-    c.next_row.ensures ∙ sym (row-for-0 a.self e a.minute a.daylight)
+    c.next_row.ensures ∙ sym (row-for-0 a.self e a.minute.index a.daylight)
 
 pub returns-in-3 : goal.returns-in-3
 unfolding row_for
 returns-in-3 c =
     let a = c.args in
     let e : a.self.kind ≡ 3 = omega arith in
-    rw (with-changes a.self (inr e), ← c.year_index.ensures, c.row_on.ensures)
+    rw (with-changes a.self (inr e), ← c.of_day.ensures, c.row_on.ensures)
 
 pub returns-in-1 : goal.returns-in-1
 unfolding row_for has_changes

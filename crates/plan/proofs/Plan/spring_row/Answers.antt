@@ -1,15 +1,13 @@
 -- `plan::Plan::spring_row` meets its contract.
 -- Assumes nothing.
-use native.Mathlib.Omega.{arith}
 use mathlib.Core.Path.{sym, ◌∙◌}
 use Rattle.plan.specs.Plan.{spring_row}
 use Rattle.plan.proofs.Laws.{earlier-in-range}
 use Rattle.plan.proofs.Plan.spring_row.Goals as goal
 
-pub april_row-requires : goal.april_row-requires
-april_row-requires c =
-    let a = c.args in
-    omega (arith, earlier-in-range a.self.kind a.years (sym c.is_earlier.ensures ∙ c.if-is_earlier.true))
+-- the earlier law is of years of the range
+pub invariant_of-april_row : goal.invariant_of-april_row
+invariant_of-april_row c = record { within = earlier-in-range _ _ (sym c.is_earlier.ensures ∙ c.if-is_earlier.true) }
 
 pub returns-then-is_earlier : goal.returns-then-is_earlier
 unfolding spring_row
