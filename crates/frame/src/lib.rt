@@ -71,7 +71,7 @@ pub fn day_word(plan: Plan, day: u32) -> u64
     requires { (legal_plan plan ≡ true) × (day < day_count) }
     ensures { result ≡ day_word plan day }
 {
-    let minute = day * 1440;
+    let minute = Minute { index: day * 1440 };
     let state = plan.state(minute);
     let next = codewords::next_word(plan.row_for(minute, state.daylight));
     let state = codewords::state_word(state);
