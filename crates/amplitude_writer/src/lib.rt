@@ -2,7 +2,6 @@
 #![tactic(auto)]
 
 ghost use Rattle.std.specs.Prelude.{◌≡◌, true, ◌++◌, ◌-◌, ◌≤◌, ◌<◌, length, take, drop, replicate};
-ghost use Rattle.calendar.specs.Calendar.{minute_count};
 ghost use Rattle.codewords.specs.CodeWords.{daylight_number};
 ghost use Rattle.plan.specs.Plan.{min_frame, max_frame, daylight_at};
 ghost use Rattle.messages.specs.Bytes.{schedule_of};
@@ -13,8 +12,9 @@ ghost use Rattle.amplitude_writer.specs.Answer.{write_numbers};
 
 use amplitude_row::{MARKER, MINUS, PLUS, ROW};
 use amplitude_rules::{Fields, Ut1, Values};
-use calendar::Date;
+use calendar::Minute;
 use codewords::LeapState;
+use gregorian::Year;
 use messages::Schedule;
 use plan::Plan;
 use questions::Refusal;
@@ -45,26 +45,24 @@ fn warning(plan: Plan, minute: u32) -> u32
 }
 
 // The daylight state of a minute, as a number.
-fn daylight(plan: Plan, minute: u32) -> u32
-    requires { minute < minute_count }
-    ensures { result ≡ daylight_number (daylight_at plan minute) }
+fn daylight(plan: Plan, minute: Minute) -> u32
+    ensures { result ≡ daylight_number (daylight_at plan minute.index) }
 {
-    u32::from(u8::from(plan.daylight(minute)))
+    u32::from(u8::from(plan.daylight(minute.index)))
 }
 
 // The values that a plan gives a minute, with the caller's UT1.
 #[tactic(auto, unfolding(amplitude_rules::specs::Writing::values_at))]
-fn values_at(plan: Plan, minute: u32, ut1: Ut1) -> Values
-    requires { minute < minute_count }
-    ensures { result ≡ values_at plan minute ut1.sign ut1.tenths }
+fn values_at(plan: Plan, minute: Minute, ut1: Ut1) -> Values
+    ensures { result ≡ values_at plan minute.index ut1.sign ut1.tenths }
 {
     Values {
-        minute,
+        minute: minute.index,
         sign: ut1.sign,
         tenths: ut1.tenths,
-        warning: warning(plan, minute),
+        warning: warning(plan, minute.index),
         daylight: daylight(plan, minute),
-        seconds: plan.length(minute),
+        seconds: plan.length(minute.index),
     }
 }
 
@@ -74,7 +72,7 @@ fn fields_of(r: Values) -> Fields
     ensures { result ≡ fields_of r }
 {
     let day = r.minute / 1440;
-    let years = gregorian::year_index(day);
+    let years = Year::of_day(day).since_first;
     Fields {
         minute: r.minute % 60,
         hour: r.minute % 1440 / 60,
@@ -121,9 +119,7 @@ pub fn write_minute(
     if !schedule.is_legal() {
         return Err(Refusal::IllegalPlan);
     }
-    if Date::MINUTES <= minute {
-        return Err(Refusal::MinuteTooLarge);
-    }
+    let minute = Minute::try_from(minute)?;
     if !is_ut1(ut1) {
         return Err(Refusal::BadValue);
     }

@@ -7,20 +7,20 @@ use Rattle.amplitude_rules.proofs.Facts.{legal, legal-through}
 use Rattle.amplitude_rules.specs.Amplitude.{fields_of}
 use Rattle.amplitude_writer.proofs.fields_of.Goals as goal
 
-pub year_index-years-requires : goal.year_index-years-requires
-year_index-years-requires c = omega (arith, (legal c.args.r c.requires).minute)
+pub of_day-years-requires : goal.of_day-years-requires
+of_day-years-requires c = omega (arith, (legal c.args.r c.requires).minute)
 
 pub days_before-requires : goal.days_before-requires
 days_before-requires c =
     omega (
       arith,
-      c.year_index-years.ensures,
+      c.of_day-years.ensures,
       year-index (c.args.r.minute / 1440) (placed (c.args.r.minute / 1440) (omega (arith, (legal c.args.r c.requires).minute))),
     )
 
 pub overflow_sub-result : goal.overflow_sub-result
 overflow_sub-result c =
-    rw (c.days_before.ensures, c.year_index-years.ensures)
+    rw (c.days_before.ensures, c.of_day-years.ensures)
     (year-low (c.args.r.minute / 1440) (placed (c.args.r.minute / 1440) (omega (arith, (legal c.args.r c.requires).minute))))
 
 pub sign_bits-requires : goal.sign_bits-requires
@@ -34,7 +34,7 @@ returns c =
       c.days_before.ensures,
       c.sign_bits.ensures,
       c.leap_mark.ensures,
-      c.year_index-years.ensures,
+      c.of_day-years.ensures,
       year-rest-is (c.args.r.minute / 1440) (placed (c.args.r.minute / 1440) (omega (arith, (legal c.args.r c.requires).minute))),
       legal-through c.args.r.sign (legal c.args.r c.requires).sign,
     )
