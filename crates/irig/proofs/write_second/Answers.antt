@@ -1,14 +1,16 @@
 -- `irig::write_second` meets its contract.
 -- Assumes nothing.
 use Prim.Native.Nat.{◌<◌}
-use mathlib.Core.Path.{sym, ap, ◌∙◌}
+use mathlib.Core.Path.{◌≡◌, sym, ap, ◌∙◌}
 use native.Mathlib.Omega.{arith}
 use Rattle.std.proofs.lemmas.Result.{err_from_is_err_and}
+use Rattle.calendar.specs.Calendar.{minute_count}
 use Rattle.plan.specs.Plan.{length_at}
 use Rattle.irig_rules.specs.Reading.{real_clock}
 use Rattle.irig_rules.proofs.Given.{clock-real}
 use Rattle.irig.proofs.Writing.{no-1, no-3, no-21, no-4, all_yes}
 use Rattle.irig.proofs.write_second.Goals as goal
+use Rattle.irig.proofs.write_second.Goals.{In_ok-minute, After-length, Else-length-second}
 
 pub returns-then-not-is_legal : goal.returns-then-not-is_legal
 returns-then-not-is_legal c = no-1 _ c.args.minute c.args.second c.args.out.now (sym c.is_legal.ensures ∙ c.if-not-is_legal.true)
@@ -19,28 +21,41 @@ returns-in_err-minute c =
     rw (p.1, p.2, c.in_err-minute.ensures.0)
     (no-3 _ c.args.minute c.args.second c.args.out.now (sym c.is_legal.ensures ∙ c.if-not-is_legal.false) c.in_err-minute.ensures.1)
 
+-- the minute is in the range
+real : (c : In_ok-minute) → c.args.minute < minute_count
+real c = omega (arith, c.in_ok-minute.ensures)
+
+-- its length is that of its number
+length-is : (c : After-length) → c.length.result ≡ length_at c.args.schedule.plan c.args.minute
+length-is c = rw c.in_ok-minute.ensures at c.length.ensures
+
+-- the second is below that length
+below : (c : Else-length-second) → c.args.second < length_at c.args.schedule.plan c.args.minute
+below c = omega (arith, length-is c.before, c.if-length-second.false)
+
 pub returns-then-length-second : goal.returns-then-length-second
 returns-then-length-second c =
+    let d = goal.at.returns-then-length-second c in
     no-21 _ c.args.minute c.args.second c.args.out.now (sym c.is_legal.ensures ∙ c.if-not-is_legal.false)
-    (omega (arith, c.in_ok-minute.ensures))
-    (omega (arith, (rw c.in_ok-minute.ensures at c.length.ensures), c.if-length-second.true))
+    (real d.In_ok-minute) (omega (arith, length-is d.After-length, c.if-length-second.true))
 
 pub returns-then-out-lt-ELEMENTS : goal.returns-then-out-lt-ELEMENTS
 returns-then-out-lt-ELEMENTS c =
+    let d = goal.at.returns-then-out-lt-ELEMENTS c in
     no-4 _ c.args.minute c.args.second c.args.out.now (sym c.is_legal.ensures ∙ c.if-not-is_legal.false)
-    (omega (arith, c.in_ok-minute.ensures))
-    (omega (arith, (rw c.in_ok-minute.ensures at c.length.ensures), c.if-length-second.false)) c.if-out-lt-ELEMENTS.true
+    (real d.In_ok-minute) (below d.Else-length-second) c.if-out-lt-ELEMENTS.true
 
 pub put_row-requires : goal.put_row-requires
 put_row-requires c =
-    let below : c.args.second < length_at c.args.schedule.plan c.args.minute = omega (arith, (rw c.in_ok-minute.ensures at c.length.ensures), c.if-length-second.false) in (
-      ap real_clock (rw c.in_ok-minute.ensures at c.clock_at.ensures) ∙ clock-real c.args.schedule.plan c.args.minute c.args.second (omega (arith, c.in_ok-minute.ensures)) below,
+    let d = goal.at.put_row-requires c in (
+      ap real_clock (rw c.in_ok-minute.ensures at c.clock_at.ensures)
+          ∙ clock-real c.args.schedule.plan c.args.minute c.args.second (real d.In_ok-minute) (below d.Else-length-second),
       c.if-out-lt-ELEMENTS.false,
     )
 
 pub returns : goal.returns
 returns c =
+    let d = goal.at.returns c in
     all_yes _ c.args.minute c.args.second c.args.out.now (sym c.is_legal.ensures ∙ c.if-not-is_legal.false)
-    (omega (arith, c.in_ok-minute.ensures))
-    (omega (arith, (rw c.in_ok-minute.ensures at c.length.ensures), c.if-length-second.false)) c.if-out-lt-ELEMENTS.false c.clock_at.result c.put_row.new.out
+    (real d.In_ok-minute) (below d.Else-length-second) c.if-out-lt-ELEMENTS.false c.clock_at.result c.put_row.new.out
     (rw c.in_ok-minute.ensures at c.clock_at.ensures) c.put_row.ensures
