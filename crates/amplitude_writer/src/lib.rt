@@ -48,7 +48,7 @@ fn warning(plan: Plan, minute: u32) -> u32
 fn daylight(plan: Plan, minute: Minute) -> u32
     ensures { result ≡ daylight_number (daylight_at plan minute.index) }
 {
-    u32::from(u8::from(plan.daylight(minute.index)))
+    u32::from(u8::from(plan.daylight(minute)))
 }
 
 // The values that a plan gives a minute, with the caller's UT1.

@@ -10,7 +10,7 @@ use Rattle.irig_rules.specs.Reading.{real_clock}
 use Rattle.irig_rules.proofs.Given.{clock-real}
 use Rattle.irig.proofs.Writing.{no-1, no-3, no-21, no-4, all_yes}
 use Rattle.irig.proofs.write_second.Goals as goal
-use Rattle.irig.proofs.write_second.Goals.{In_ok-minute, After-length, Else-length-second}
+use Rattle.irig.proofs.write_second.Goals.{In_ok-minute, Else-length-second}
 
 pub returns-then-not-is_legal : goal.returns-then-not-is_legal
 returns-then-not-is_legal c = no-1 _ c.args.minute c.args.second c.args.out.now (sym c.is_legal.ensures ∙ c.if-not-is_legal.true)
@@ -25,19 +25,15 @@ returns-in_err-minute c =
 real : (c : In_ok-minute) → c.args.minute < minute_count
 real c = omega (arith, c.in_ok-minute.ensures)
 
--- its length is that of its number
-length-is : (c : After-length) → c.length.result ≡ length_at c.args.schedule.plan c.args.minute
-length-is c = rw c.in_ok-minute.ensures at c.length.ensures
-
--- the second is below that length
+-- the second is below its length
 below : (c : Else-length-second) → c.args.second < length_at c.args.schedule.plan c.args.minute
-below c = omega (arith, length-is c.before, c.if-length-second.false)
+below c = omega (arith, (rw c.in_ok-minute.ensures at c.length.ensures), c.if-length-second.false)
 
 pub returns-then-length-second : goal.returns-then-length-second
 returns-then-length-second c =
     let d = goal.at.returns-then-length-second c in
     no-21 _ c.args.minute c.args.second c.args.out.now (sym c.is_legal.ensures ∙ c.if-not-is_legal.false)
-    (real d.In_ok-minute) (omega (arith, length-is d.After-length, c.if-length-second.true))
+    (real d.In_ok-minute) (omega (arith, (rw c.in_ok-minute.ensures at c.length.ensures), c.if-length-second.true))
 
 pub returns-then-out-lt-ELEMENTS : goal.returns-then-out-lt-ELEMENTS
 returns-then-out-lt-ELEMENTS c =
