@@ -147,7 +147,8 @@ loop-used-preserved c =
     let some : 0 < length (rest d) = omega (arith, length-drop c.loop-used.used c.args.bits.now) in
     let room : from d + entry_size ≤ length c.loop-used.entries = omega (arith, free d s c.in-Ok.is, part_length d, c.loop-used.invariant.2) in
     let one-slot : slots ≡ suc fewer = omega (arith, room, c.loop-used.invariant.2) in
-    let put-is : later d ≡ entry_bytes e ++ drop entry_size (part d) = (rw gone.is at (later-is d)) in (
+    let put-is : later d ≡ entry_bytes e ++ drop entry_size (part d) = (rw gone.is at (later-is d)) in
+    rw c.from-used.ensures (
       rw gone.bits (left d s c.in-Ok.is),
       omega (arith, room, c.loop-used.invariant.2),
       put-length c.loop-used.entries (later d) (from d) e room put-is ∙ c.loop-used.invariant.2,
