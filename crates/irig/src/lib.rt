@@ -34,6 +34,7 @@ fn day_of_year(minute: u32) -> u32
 }
 
 // The time of a second of a minute.
+#[tactic(auto, unfolding(irig_rules::specs::Irig::clock_at))]
 fn clock_at(minute: u32, second: u32) -> Clock
     requires { minute < minute_count }
     ensures { result ≡ clock_at minute second }
