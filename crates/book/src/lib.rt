@@ -57,14 +57,12 @@ fn gather_bits(text: &mut [u8]) -> usize
         × (text.new ≡ gathered text.old) }
 {
     let mut count: usize = 0;
-    let mut i: usize = 0;
-    while i < text.len() {
+    for i in 0..text.len() {
         let byte = text[i];
         if !is_gap(byte) {
             text[count] = bit_in(byte);
             count += 1;
         }
-        i += 1;
     }
     count
 }

@@ -112,15 +112,12 @@ fn put_parts(bits: &[u8], due: Due, out: &mut [u8]) -> Rest
     let mut space = part_space();
     let mut used: usize = 0;
     let mut next = due;
-    let mut i: usize = 0;
-    while i < PARTS {
+    for i in 0..PARTS {
         let part = entries::read_from(&bits[used..], &mut space, next);
         let end = part.entries * ENTRY_SIZE;
-        let at = i * PART_SIZE;
-        put_part(&space[..end], &mut out[at..]);
+        put_part(&space[..end], &mut out[i * PART_SIZE..]);
         used += part.used;
         next = part.due;
-        i += 1;
     }
     Rest { used, due: next }
 }
