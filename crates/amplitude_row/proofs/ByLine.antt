@@ -130,7 +130,8 @@ module _ (s : List ℕ) (h : min_frame ≤ length s) where
       let k : w ≤ length t = rw (length-drop a (take min_frame s), length-take-le min_frame s h) (omega arith) in
       let f : take w t ≡ p = part-take min_frame a w s inside in
       let d : drop w t ≡ drop (a + w) (take min_frame s) = drop-drop w a (take min_frame s) in
-      let g : Reads (mark ∷ l.parts) p x (l.values (number_or (line_number p))) = line_reads l p (rw (length-drop 1 p, length_part s a w (omega arith)) (omega arith)) in (
+      let g : Reads (mark ∷ l.parts) p x (l.values (number_or (line_number p))) =
+      line_reads l p (rw (length-drop 1 p, length_part s a w (omega arith)) (omega arith)) in (
         rw (f, d, g.0, r.0) at (fits-append (mark ∷ l.parts) qs t k) ∙ joined x y,
         λ z. rw (f, d, g.1 (omega arith), r.1 (omega arith)) at (numbers-append (mark ∷ l.parts) qs t k),
       )

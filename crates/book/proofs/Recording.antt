@@ -12,8 +12,8 @@ use borrow.Author.Tests.{eqb-true, eqb-false, ne_eqb, leb-true, le-leb}
 use Rattle.questions.specs.Questions.{asked, one_of}
 use Rattle.bits.specs.Bits.{pick, all}
 use Rattle.bits.proofs.Tests.{both_true}
-use Rattle.frame.specs.Answer.{refusal_number}
-use Rattle.frame.specs.declared.Refusal.{Refusal}
+use Rattle.questions.specs.Refusals.{refusal_number}
+use Rattle.questions.specs.declared.Refusal.{Refusal}
 use Rattle.page.proofs.Parts.{number-above}
 use Rattle.page_rules.specs.Page.{page_count, pages, pages_from}
 use Rattle.page_rules.specs.Printing.{read_all, entries_of, pages_of, Printed, unprinted, print_text, print_found, print_pages, read_on}
@@ -36,7 +36,7 @@ pages-few f h = pages-fit (length (pages_of f)) (length (entries_of f)) (length 
 
 -- one of the numbers that are all between two others
 between : (a b n : ℕ) (ks : List ℕ) → all (λ k. leb a k && leb k b) ks ≡ true → one_of ks n ≡ true → (a ≤ n) × (n ≤ b)
-unfolding all one_of
+unfolding one_of
 between a b n [] w h = let z : ◌≡◌ {A = ℕ} 0 1 = cc in absurd (omega arith)
 between a b n (k ∷ ks) w h =
     let t = both_true (leb a k && leb k b) (all (λ k. leb a k && leb k b) ks) w in
@@ -56,7 +56,7 @@ answers f = go (all-answers f)
   where
     go : ((read_all f).refusal ≡ 0) ⊎ (one_of page_numbers (read_all f).refusal ≡ true) → Answered (read_all f).refusal
     go (inl e) = inl e
-    go (inr h) = let b = between 6 20 (read_all f).refusal page_numbers (unfold all in refl) h in inr (omega arith, omega arith)
+    go (inr h) = let b = between 6 20 (read_all f).refusal page_numbers (refl) h in inr (omega arith, omega arith)
 
 pub recording-pages : (f : List ℕ) → (read_all f).refusal ≡ 0 → recording_text f ≡ pages_of f
 unfolding recording_text
@@ -102,16 +102,6 @@ module _ (f buffer after : List ℕ) (h : length (pages_of f) ≤ length buffer)
           let p = e ∙ pages-case t in
           rw (recording-pages f (eqb-true _ 0 t)) (ap (λ (x : Printed). x.bytes) p, ap (λ (x : Printed). x.buffer) p)
       go false t = absurd (eqb-false _ 0 t (sym (ap (λ (x : Printed). x.refusal) (e ∙ refused-case t))))
-
-  pub never-no-space : Answered (read_all f).refusal → unprinted after 4 ≡ print_pages buffer f → ⊥
-  unfolding unprinted
-  never-no-space k e = go (eqb (read_all f).refusal 0) refl
-    where
-      go : (b : Bool) → eqb (read_all f).refusal 0 ≡ b → ⊥
-      go true t = omega (arith, ap (λ (x : Printed). x.refusal) (e ∙ pages-case t))
-      go false t =
-          let p = ap (λ (x : Printed). x.refusal) (e ∙ refused-case t) in
-          ⊎_elim (λ z. omega (arith, p)) (λ z. omega (arith, p)) k
 
   pub refused-told : (n : ℕ) → 0 < n → unprinted after n ≡ print_pages buffer f → (recording_text f ≡ refused_text n) × (after ≡ buffer)
   unfolding unprinted

@@ -2,11 +2,11 @@
 #![tactic(auto)]
 
 ghost use Rattle.std.specs.Prelude.{◌≡◌, ◌++◌, ◌≤◌, length, drop};
+ghost use Rattle.questions.specs.Refusals.{refusal_number};
 ghost use Rattle.listing.specs.Listing.{refused_text};
 ghost use Rattle.book.specs.Book.{is_gap, bit_in, bits_in, book_limit, recording_text, printed, gathered, input_after};
 
-use listing::ListAnswer;
-use page::PrintAnswer;
+use questions::Refusal;
 
 // The bytes of input for which there is space.
 pub const BOOK_LIMIT: usize = 2_745_000;
@@ -28,8 +28,8 @@ const ONE: u8 = b'1';
 // A byte that is no bit.
 const NO_BIT: u8 = 2;
 
-// The number of too little space.
-const TOO_LONG: u32 = 4;
+// The refusal of an input that is too long: too little space.
+const TOO_LONG: Refusal = Refusal::NoBitSpace;
 
 // Blanks and line feeds are passed over.
 fn is_gap(byte: u8) -> bool
@@ -57,28 +57,23 @@ fn gather_bits(text: &mut [u8]) -> usize
         × (text.new ≡ gathered text.old) }
 {
     let mut count: usize = 0;
-    let mut i: usize = 0;
-    while i < text.len() {
+    for i in 0..text.len() {
         let byte = text[i];
         if !is_gap(byte) {
             text[count] = bit_in(byte);
             count += 1;
         }
-        i += 1;
     }
     count
 }
 
 // Writes a refusal; gives the length of its text.
-fn put_refusal(number: u32, out: &mut [u8; BOOK_SPACE]) -> usize
-    ensures { (result ≡ length (refused_text number))
-        × (out.new ≡ refused_text number ++ drop (length (refused_text number)) out.old) }
+fn put_refusal(refusal: Refusal, out: &mut [u8; BOOK_SPACE]) -> usize
+    ensures { (result ≡ length (refused_text (refusal_number refusal)))
+        × (out.new
+        ≡ refused_text (refusal_number refusal) ++ drop (length (refused_text (refusal_number refusal))) out.old) }
 {
-    let answer = listing::put_refused(number, out);
-    match answer {
-        ListAnswer::Listed(n) => n,
-        ListAnswer::NoSpace => 0,
-    }
+    listing::put_refused(refusal, out).unwrap_or(0)
 }
 
 // Writes the pages of a recording, or its refusal; gives the length of the text.
@@ -88,11 +83,9 @@ fn print_recording(bits: &[u8], out: &mut [u8; BOOK_SPACE]) -> usize
         × (out.new
         ≡ recording_text bits.now ++ drop (length (recording_text bits.now)) out.old) }
 {
-    let answer = page::print_pages(bits, out);
-    match answer {
-        PrintAnswer::Written(n) => n,
-        PrintAnswer::NoSpace => 0,
-        PrintAnswer::Refused(refusal) => put_refusal(refusal.number(), out),
+    match page::print_pages(bits, out) {
+        Ok(n) => n,
+        Err(refusal) => put_refusal(refusal, out),
     }
 }
 

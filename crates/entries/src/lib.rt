@@ -197,7 +197,7 @@ pub fn read_from(bits: &[u8], entries: &mut [u8], due: Due) -> Summary
         let from = count * ENTRY_SIZE;
         match read_entry(&bits[used..], false, next, &mut entries[from..]) {
             Ok(step) => {
-                used += step.length as usize;
+                used += usize::from(step.length);
                 count += 1;
                 next = Due::Minute(step.minute, step.leap);
             }

@@ -166,11 +166,12 @@ fn length_for(leap: LeapState, minute: u32) -> u8
 }
 
 // Question 13: as many bytes as called for, and those after byte 58 all 0.
-fn ends_right(frame: &[u8], alone: bool, seconds: usize) -> bool
+fn ends_right(frame: &[u8], alone: bool, seconds: u8) -> bool
     requires { min_frame ≤ seconds }
     ensures { result
         ≡ (enough alone seconds (length frame.now) && all is_zero (take (seconds - min_frame) (drop min_frame frame.now))) }
 {
+    let seconds = usize::from(seconds);
     let enough = if alone {
         seconds == frame.len()
     } else {
@@ -212,7 +213,7 @@ fn read_fields(
         return Err(Refusal::BadMinute);
     }
     let length = length_for(state.leap, minute);
-    if !ends_right(frame, alone, length as usize) {
+    if !ends_right(frame, alone, length) {
         return Err(Refusal::BadLength);
     }
     if !is_due(due, minute) {

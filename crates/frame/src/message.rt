@@ -40,7 +40,7 @@ fn read_counted(
         return Err(Refusal::BadMinute);
     }
     let length = crate::seconds_for(leap, minute);
-    if !crate::ends_right(frame, alone, length as usize) {
+    if !crate::ends_right(frame, alone, length) {
         return Err(Refusal::BadLength);
     }
     if layout::echo_bit(word) != u64::from(minute % 2) {

@@ -33,6 +33,7 @@ fn day_of_year(minute: Minute) -> u32
 }
 
 // The time of a second of a minute.
+#[tactic(auto, unfolding(irig_rules::specs::Irig::clock_at))]
 fn clock_at(minute: Minute, second: u32) -> Clock
     ensures { result ≡ clock_at minute.index second }
 {

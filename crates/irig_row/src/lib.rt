@@ -69,6 +69,7 @@ pub fn second_of_day(c: Clock) -> u32
 }
 
 // The numbers of the lines of a time.
+#[tactic(auto, unfolding(crate::specs::Row::lines_of))]
 fn lines_of(c: Clock) -> [u64; LINES]
     requires { real_clock c ≡ true }
     ensures { result ≡ lines_of c }

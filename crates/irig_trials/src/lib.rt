@@ -1,7 +1,8 @@
 // What `vectors` tries of IRIG B: seconds written and read.
 #![tactic(auto)]
 
-use irig::{ReadAnswer, WriteAnswer};
+use messages::Schedule;
+use questions::Refusal;
 use std::io;
 use std::io::Write;
 use trials::show;
@@ -9,68 +10,35 @@ use trials::show;
 // Space for the elements of a second, and four bytes more.
 const OUT_SPACE: usize = 104;
 
-// 0, the day of the year and the second of the day.
-fn told<W: Write>(to: &mut W, day: u32, second: u32) -> io::Result<()> {
-    show::value(to, 0)?;
-    show::value(to, day)?;
-    show::value(to, second)
+// Reads elements: the refusal, or 0, the day of the year and the second of the day.
+fn read<W: Write>(to: &mut W, elements: &[u8]) -> io::Result<()> {
+    match irig::read_second(elements) {
+        Ok(seconds) => write!(to, " 0 {} {}", seconds.day, seconds.second),
+        Err(refusal) => show::refusal(to, refusal),
+    }
 }
 
-// Reads the first n elements: the refusal, or 0 and what they say.
-fn read<W: Write>(to: &mut W, elements: &[u8], n: usize) -> io::Result<()> {
-    if elements.len() < n {
+// Reads given elements.
+pub fn given<W: Write>(to: &mut W, digits: &[u8]) -> io::Result<()> {
+    let mut space = [0u8; 128];
+    let Some(elements) = space.get_mut(..digits.len()) else {
         return Ok(());
-    }
-    match irig::read_second(&elements[0..n]) {
-        ReadAnswer::Second(day, second) => told(to, day, second),
-        ReadAnswer::NoSecond => show::value(to, 21),
-    }
+    };
+    cases::load(digits, elements);
+    read(to, elements)
 }
 
-// Reads n given elements.
-pub fn given<W: Write>(to: &mut W, digits: &[u8], n: usize) -> io::Result<()> {
-    let mut elements = [0u8; 128];
-    cases::load(digits, &mut elements);
-    read(to, &elements, n)
-}
-
-// Writes a second: the refusal or 0 is printed, the number of elements given back.
-fn write<W: Write>(to: &mut W, text: &[u8], out: &mut [u8]) -> io::Result<usize> {
-    let messages = cases::messages(text, 9);
-    let n = cases::size(text, 9);
-    if messages.len() < n {
-        return Ok(0);
-    }
-    let answer = irig::write_second(
-        cases::plan(text),
-        &messages[0..n],
-        cases::number(text, 6),
-        cases::number(text, 7),
-        out,
-    );
-    match answer {
-        WriteAnswer::Written(n) => {
-            show::value(to, 0)?;
-            Ok(n)
-        }
-        WriteAnswer::Refused(refusal) => {
-            show::value(to, refusal.number())?;
-            Ok(0)
-        }
-    }
-}
-
-// Writes to the front of the bytes.
-fn write_front<W: Write>(
-    to: &mut W,
-    text: &[u8],
-    out: &mut [u8],
-    space: usize,
-) -> io::Result<usize> {
-    if out.len() < space {
-        return Ok(0);
-    }
-    write(to, text, &mut out[0..space])
+// Writes a second, with messages of at most 50 bytes.
+fn write(text: &[u8], out: &mut [u8]) -> Option<Result<usize, Refusal>> {
+    let bytes = cases::messages(text, 9);
+    let messages = bytes.get(..cases::size(text, 9))?;
+    let schedule = Schedule {
+        plan: cases::plan(text),
+        messages,
+    };
+    let minute = cases::number(text, 6);
+    let second = cases::number(text, 7);
+    Some(irig::write_second(schedule, minute, second, out))
 }
 
 // `plan .. minute M, second S, in SPACE:` writes into so many bytes of 104: the refusal or 0, the number
@@ -78,12 +46,15 @@ fn write_front<W: Write>(
 // in `plan .. in SPACE, 10 bytes of messages MINUTE DATA:`.
 pub fn written<W: Write>(to: &mut W, text: &[u8]) -> io::Result<()> {
     let mut out = [7u8; OUT_SPACE];
-    let n = write_front(to, text, &mut out, cases::size(text, 8))?;
+    let answer = show::front(to, &mut out, cases::size(text, 8), |out| write(text, out))?;
+    let n = answer.unwrap_or(0);
     show::size(to, n)?;
-    show::digits(to, &out, OUT_SPACE)?;
-    if 0 < n {
-        show::mark(to, b':')?;
-        read(to, &out, n)?;
+    show::digits(to, &out)?;
+    match out.get(..n) {
+        Some(elements) if !elements.is_empty() => {
+            show::mark(to, b':')?;
+            read(to, elements)
+        }
+        _ => Ok(()),
     }
-    Ok(())
 }

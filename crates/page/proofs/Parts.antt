@@ -12,13 +12,13 @@ use Rattle.bits.specs.Numbers.{found, refused}
 use Rattle.format.specs.Entry.{entry_size}
 use Rattle.format.specs.Questions.{start}
 use Rattle.format.specs.declared.Due.{Due}
-use Rattle.frame.specs.Answer.{refusal_number}
-use Rattle.frame.specs.declared.Refusal.{Refusal}
-use Rattle.frame.specs.declared.Refusal.TheVariants.{EntrySpace, Short, NotBits, Sync, StateWord, NextWord, Minute, Length, Order, FirstMessage, LeapUnknown}
+use Rattle.std.specs.Prelude.{Ok, Err}
+use Rattle.questions.specs.Refusals.{refusal_number}
+use Rattle.questions.specs.declared.Refusal.{Refusal}
+use Rattle.questions.specs.declared.Refusal.TheVariants.{IllegalPlan, BadCount, MinuteTooLarge, NoBitSpace, NoEntrySpace, TooShort, NotBits, BadSync, BadState, BadNextChange, BadMinute, BadLength, OutOfOrder, NotADate, BadSetting, BadSymbols, BadValue, FirstMessage, UnknownLength, BadSecond}
 use Rattle.sequence.specs.Reading.{Found, stop, read_frames, bytes_of, Outcome, outcome, read_from, due_from}
 use Rattle.sequence.proofs.Resume.{length-bytes}
 use Rattle.entries.specs.Answer.{end_number, summary_outcome}
-use Rattle.entries.specs.declared.End.TheVariants.{Complete, Refused}
 use Rattle.entries.specs.declared.Summary.{Summary}
 use Rattle.page_rules.specs.Printing.{read_on, read_all}
 use Rattle.page_rules.proofs.Reading.{sized, read-on-same, read-parts, before, on-end}
@@ -60,17 +60,26 @@ space-kept d f first later s p l =
 
 -- a refusal has a number above 0
 pub number-above : (x : Refusal) → 0 < refusal_number x
-number-above EntrySpace = omega arith
-number-above Short = omega arith
+number-above IllegalPlan = omega arith
+number-above BadCount = omega arith
+number-above MinuteTooLarge = omega arith
+number-above NoBitSpace = omega arith
+number-above NoEntrySpace = omega arith
+number-above TooShort = omega arith
 number-above NotBits = omega arith
-number-above Sync = omega arith
-number-above StateWord = omega arith
-number-above NextWord = omega arith
-number-above Minute = omega arith
-number-above Length = omega arith
-number-above Order = omega arith
+number-above BadSync = omega arith
+number-above BadState = omega arith
+number-above BadNextChange = omega arith
+number-above BadMinute = omega arith
+number-above BadLength = omega arith
+number-above OutOfOrder = omega arith
+number-above NotADate = omega arith
+number-above BadSetting = omega arith
+number-above BadSymbols = omega arith
+number-above BadValue = omega arith
 number-above FirstMessage = omega arith
-number-above LeapUnknown = omega arith
+number-above UnknownLength = omega arith
+number-above BadSecond = omega arith
 
 -- ---- the first pass: what is counted, and what is left
 
@@ -92,15 +101,15 @@ unfolding counted
 counted-refused n r l e = rw (e, ne_eqb n 0 (λ h. omega (arith, h)))
 
 module _ (count : ℕ) (d : Due) (f space later : List ℕ) (s : Summary) (p : Part d f space later s) (whole : Found) (c : Counting count d f whole) where
-  pub counted-complete : s.end ≡ Complete → found ((count + s.entries) ∷ []) ≡ counted whole
-  counted-complete e =
+  pub counted-complete : (u : Unit {0}) → s.end ≡ Ok u → found ((count + s.entries) ∷ []) ≡ counted whole
+  counted-complete u e =
       let z : (part d f).refusal ≡ 0 = sym p.end ∙ ap end_number e in
       let k : part d f ≡ read_on d f = read-on-same 10 d f (λ h. omega arith) in
       let r : (read_on d f).refusal ≡ 0 = ap (λ (x : Found). x.refusal) (sym k) ∙ z in
       let l : length (part d f).entries ≡ length (read_on d f).entries = ap (λ (x : Found). length x.entries) k in
       counted-found (count + s.entries) whole (sym c.refusal ∙ r) (omega (arith, c.total, p.entries))
 
-  pub counted-refusal : (x : Refusal) → s.end ≡ Refused x → s.entries < 10 → refused (refusal_number x) ≡ counted whole
+  pub counted-refusal : (x : Refusal) → s.end ≡ Err x → s.entries < 10 → refused (refusal_number x) ≡ counted whole
   counted-refusal x e l =
       let z : (part d f).refusal ≡ refusal_number x = sym p.end ∙ ap end_number e in
       let n : (part d f).refusal ≡ 5 → ⊥ = λ h. omega (arith, ((sized 10 d f).full h).0, p.entries) in
@@ -108,7 +117,7 @@ module _ (count : ℕ) (d : Due) (f space later : List ℕ) (s : Summary) (p : P
       counted-refused (refusal_number x) whole (number-above x) (sym c.refusal ∙ ap (λ (r : Found). r.refusal) (sym k) ∙ z)
 
   -- out of space: ten entries more, and bits are left
-  pub out-of-space : (x : Refusal) → s.end ≡ Refused x → 10 ≤ s.entries → (part d f).refusal ≡ 5
+  pub out-of-space : (x : Refusal) → s.end ≡ Err x → 10 ≤ s.entries → (part d f).refusal ≡ 5
   out-of-space x e l = go ((sized 10 d f).taken (omega (arith, (sized 10 d f).slots, p.entries)))
     where
       go : ((part d f).refusal ≡ 0) ⊎ ((part d f).refusal ≡ 5) → (part d f).refusal ≡ 5

@@ -10,31 +10,16 @@ ghost use Rattle.page.specs.Bytes.{entries_in, line_at, lines_text};
 ghost use Rattle.page.specs.Rest.{page_entries, rest_after};
 ghost use Rattle.page.specs.Answer.{counted, count_numbers, print_outcome};
 
-use entries::{ENTRY_SIZE, End};
+use entries::ENTRY_SIZE;
 use format::Due;
-use frame::Refusal;
 use page_lines::{HEAD_SIZE, LINE_SIZE};
-
-// What printing came to: the bytes written, a buffer that is too short, or the refusal of the recording.
-#[derive(Clone, Copy)]
-pub enum PrintAnswer {
-    Written(usize),
-    NoSpace,
-    Refused(Refusal),
-}
+use questions::Refusal;
 
 // What a page leaves of a recording: the bits that its frames took, and the state after them.
 #[derive(Clone, Copy)]
 struct Rest {
     used: usize,
     due: Due,
-}
-
-// The number of entries of a recording, or its refusal.
-#[derive(Clone, Copy)]
-enum Count {
-    Entries(usize),
-    Halted(Refusal),
 }
 
 // The entries that are read at a time. Their space is small, so that the compiler clears it without a call.
@@ -63,7 +48,7 @@ fn part_space() -> [u8; PART_SPACE]
 }
 
 // Counts the entries of a recording: the first pass.
-fn count_entries(bits: &[u8]) -> Count
+fn count_entries(bits: &[u8]) -> Result<usize, Refusal>
     ensures { count_numbers result ≡ counted (read_all bits.now) }
 {
     let mut space = part_space();
@@ -72,12 +57,11 @@ fn count_entries(bits: &[u8]) -> Count
     let mut due = Due::Any;
     while used < bits.len() {
         let part = entries::read_from(&bits[used..], &mut space, due);
-        let end = part.end;
-        match end {
-            End::Complete => return Count::Entries(count + part.entries),
-            End::Refused(refusal) => {
+        match part.end {
+            Ok(()) => return Ok(count + part.entries),
+            Err(refusal) => {
                 if part.entries < PART_ENTRIES {
-                    return Count::Halted(refusal);
+                    return Err(refusal);
                 }
                 count += part.entries;
                 used += part.used;
@@ -85,7 +69,7 @@ fn count_entries(bits: &[u8]) -> Count
             }
         }
     }
-    Count::Entries(count)
+    Ok(count)
 }
 
 // Writes line i of a part to the front of out: that of entry i, or a blank one where there is none.
@@ -113,11 +97,8 @@ fn put_part(entries: &[u8], out: &mut [u8])
         × (420 ≤ length out.old) }
     ensures { out.new ≡ lines_text 10 (entries_in entries.now) ++ drop 420 out.old }
 {
-    let mut i: usize = 0;
-    while i < PART_ENTRIES {
-        let at = i * LINE_SIZE;
-        put_line_at(i, entries, &mut out[at..]);
-        i += 1;
+    for i in 0..PART_ENTRIES {
+        put_line_at(i, entries, &mut out[i * LINE_SIZE..]);
     }
 }
 
@@ -131,15 +112,12 @@ fn put_parts(bits: &[u8], due: Due, out: &mut [u8]) -> Rest
     let mut space = part_space();
     let mut used: usize = 0;
     let mut next = due;
-    let mut i: usize = 0;
-    while i < PARTS {
+    for i in 0..PARTS {
         let part = entries::read_from(&bits[used..], &mut space, next);
         let end = part.entries * ENTRY_SIZE;
-        let at = i * PART_SIZE;
-        put_part(&space[..end], &mut out[at..]);
+        put_part(&space[..end], &mut out[i * PART_SIZE..]);
         used += part.used;
         next = part.due;
-        i += 1;
     }
     Rest { used, due: next }
 }
@@ -174,20 +152,15 @@ fn put_pages(bits: &[u8], out: &mut [u8])
     }
 }
 
-// Prints a recording as pages.
-pub fn print_pages(bits: &[u8], out: &mut [u8]) -> PrintAnswer
+// Prints a recording as pages; gives the bytes written.
+pub fn print_pages(bits: &[u8], out: &mut [u8]) -> Result<usize, Refusal>
     ensures { print_outcome result out.new ≡ print_pages out.old bits.now }
 {
-    let count = count_entries(bits);
-    match count {
-        Count::Halted(refusal) => PrintAnswer::Refused(refusal),
-        Count::Entries(n) => {
-            let pages = (n + (PAGE_ENTRIES - 1)) / PAGE_ENTRIES;
-            if out.len() / PAGE_SIZE < pages {
-                return PrintAnswer::NoSpace;
-            }
-            put_pages(bits, out);
-            PrintAnswer::Written(pages * PAGE_SIZE)
-        }
+    let count = count_entries(bits)?;
+    let pages = (count + (PAGE_ENTRIES - 1)) / PAGE_ENTRIES;
+    if out.len() / PAGE_SIZE < pages {
+        return Err(Refusal::NoBitSpace);
     }
+    put_pages(bits, out);
+    Ok(pages * PAGE_SIZE)
 }

@@ -7,7 +7,7 @@ ghost use Rattle.page_rules.specs.Page.{blanks, aligned, line, feed};
 ghost use Rattle.page_rules.specs.Theorems.{Fits};
 ghost use Rattle.page_columns.specs.Bytes.{entry_in};
 
-use calendar::Date;
+use calendar::{Date, Minute};
 
 // The bytes of a line with its line feed.
 pub const LINE_SIZE: usize = 42;
@@ -49,7 +49,9 @@ pub fn put_line(entry: &[u8], out: &mut [u8])
     let minute = page_columns::minute_in(entry);
     let seconds = u32::from(entry[4]);
     out[..9].copy_from_slice(&page_columns::column::<9>(minute, BLANK));
-    out[9..26].copy_from_slice(&page_columns::moment_columns(Date::at_minute(minute)));
+    out[9..26].copy_from_slice(&page_columns::moment_columns(Date::at_minute(Minute {
+        index: minute,
+    })));
     out[26..29].copy_from_slice(&page_columns::column::<3>(seconds, BLANK));
     out[29..LINE_SIZE].copy_from_slice(&page_columns::last_columns(entry));
 }

@@ -8,10 +8,9 @@ ghost use Rattle.wwvb.specs.Replies.{plan_of, reply_numbers};
 ghost use Rattle.wwvb.specs.Amplitude.{symbols_reply, accepted_reply, refused_reply, amplitude_reply};
 
 use crate::WriteReply;
-use amplitude_reader::ReadAnswer;
-use amplitude_rules::Values;
-use amplitude_writer::WriteAnswer;
-use calendar::Date;
+use amplitude_rules::{Ut1, Values};
+use calendar::{Date, Minute};
+use messages::Schedule;
 use plan::Plan;
 
 // The refusal or 0, the date, UT1, leap warning, daylight state and length; refused, every other field is 0.
@@ -53,25 +52,22 @@ pub extern "C" fn wwvb_write_amplitude(
         × (out.new
         ≡ symbols_written (schedule_of (plan_of kind spring autumn leap_month leap_sign notice) messages.now) minute ut1_sign ut1_tenths out.old) }
 {
-    let plan = Plan {
-        kind,
-        spring,
-        autumn,
-        leap_month,
-        leap_sign,
-        notice,
-    };
-    let answer = amplitude_writer::write_minute(plan, messages, minute, ut1_sign, ut1_tenths, out);
-    match answer {
-        WriteAnswer::Written(symbols) => WriteReply {
-            refusal: 0,
-            bits: symbols,
+    let schedule = Schedule {
+        plan: Plan {
+            kind,
+            spring,
+            autumn,
+            leap_month,
+            leap_sign,
+            notice,
         },
-        WriteAnswer::Refused(question) => {
-            let refusal = question.number() as usize;
-            WriteReply { refusal, bits: 0 }
-        }
-    }
+        messages,
+    };
+    let ut1 = Ut1 {
+        sign: ut1_sign,
+        tenths: ut1_tenths,
+    };
+    WriteReply::from(amplitude_writer::write_minute(schedule, minute, ut1, out))
 }
 
 // 0 and the values of a minute, with its date.
@@ -79,7 +75,9 @@ fn accepted(values: Values) -> AmplitudeReply
     requires { legal_values values ≡ true }
     ensures { result ≡ accepted_reply values }
 {
-    let date = Date::at_minute(values.minute);
+    let date = Date::at_minute(Minute {
+        index: values.minute,
+    });
     AmplitudeReply {
         refusal: 0,
         year: date.year,
@@ -121,10 +119,8 @@ fn refused(refusal: u32) -> AmplitudeReply
 pub extern "C" fn wwvb_read_amplitude(symbols: &[u8]) -> AmplitudeReply
     ensures { result ≡ amplitude_reply (read_amplitude symbols.now) }
 {
-    let answer = amplitude_reader::read_minute(symbols);
-    match answer {
-        ReadAnswer::Read(values) => accepted(values),
-        ReadAnswer::BadSymbols => refused(17),
-        ReadAnswer::BadValue => refused(18),
+    match amplitude_reader::read_minute(symbols) {
+        Ok(values) => accepted(values),
+        Err(refusal) => refused(u32::from(refusal)),
     }
 }

@@ -3,11 +3,14 @@ ghost use Rattle.std.specs.Prelude.{◌≡◌, length};
 ghost use Rattle.messages.specs.Bytes.{schedule_of};
 ghost use Rattle.irig_rules.specs.Reading.{read_irig};
 ghost use Rattle.irig_rules.specs.Writing.{write_irig, elements_written};
+ghost use Rattle.irig.specs.Answer.{write_numbers, read_numbers};
 ghost use Rattle.wwvb.specs.Replies.{plan_of, reply_numbers};
 ghost use Rattle.wwvb.specs.IrigB.{elements_reply, irig_reply};
 
-use irig::{ReadAnswer, WriteAnswer};
+use irig::Seconds;
+use messages::Schedule;
 use plan::Plan;
+use questions::Refusal;
 
 // The refusal or 0, and the number of elements; refused, that number is 0.
 #[repr(C)]
@@ -24,6 +27,44 @@ pub struct IrigReply {
     pub refusal: u32,
     pub day_of_year: u32,
     pub second_of_day: u32,
+}
+
+impl From<Result<usize, Refusal>> for IrigWriteReply {
+    ghost from_gives = { λ answer reply. elements_reply reply ≡ reply_numbers 1 (write_numbers answer) };
+
+    #[tactic(auto, using(crate::proofs::Refused::not_zero), unfolding(crate::specs::Replies::reply_numbers))]
+    fn from(answer: Result<usize, Refusal>) -> IrigWriteReply {
+        match answer {
+            Ok(elements) => IrigWriteReply {
+                refusal: 0,
+                elements,
+            },
+            Err(refusal) => IrigWriteReply {
+                refusal: u32::from(refusal) as usize,
+                elements: 0,
+            },
+        }
+    }
+}
+
+impl From<Result<Seconds, Refusal>> for IrigReply {
+    ghost from_gives = { λ answer reply. irig_reply reply ≡ reply_numbers 2 (read_numbers answer) };
+
+    #[tactic(auto, using(crate::proofs::Refused::not_zero), unfolding(crate::specs::Replies::reply_numbers))]
+    fn from(answer: Result<Seconds, Refusal>) -> IrigReply {
+        match answer {
+            Ok(seconds) => IrigReply {
+                refusal: 0,
+                day_of_year: seconds.day,
+                second_of_day: seconds.second,
+            },
+            Err(refusal) => IrigReply {
+                refusal: u32::from(refusal),
+                day_of_year: 0,
+                second_of_day: 0,
+            },
+        }
+    }
 }
 
 // Writes a second of IRIG B by the plan of the six numbers and the messages.
@@ -46,28 +87,18 @@ pub extern "C" fn wwvb_write_irig(
         × (out.new
         ≡ elements_written (schedule_of (plan_of kind spring autumn leap_month leap_sign notice) messages.now) minute second out.old) }
 {
-    let plan = Plan {
-        kind,
-        spring,
-        autumn,
-        leap_month,
-        leap_sign,
-        notice,
-    };
-    let answer = irig::write_second(plan, messages, minute, second, out);
-    match answer {
-        WriteAnswer::Written(elements) => IrigWriteReply {
-            refusal: 0,
-            elements,
+    let schedule = Schedule {
+        plan: Plan {
+            kind,
+            spring,
+            autumn,
+            leap_month,
+            leap_sign,
+            notice,
         },
-        WriteAnswer::Refused(question) => {
-            let refusal = question.number() as usize;
-            IrigWriteReply {
-                refusal,
-                elements: 0,
-            }
-        }
-    }
+        messages,
+    };
+    IrigWriteReply::from(irig::write_second(schedule, minute, second, out))
 }
 
 // Reads a second of IRIG B.
@@ -75,17 +106,5 @@ pub extern "C" fn wwvb_write_irig(
 pub extern "C" fn wwvb_read_irig(elements: &[u8]) -> IrigReply
     ensures { irig_reply result ≡ reply_numbers 2 (read_irig elements.now) }
 {
-    let answer = irig::read_second(elements);
-    match answer {
-        ReadAnswer::Second(day, second) => IrigReply {
-            refusal: 0,
-            day_of_year: day,
-            second_of_day: second,
-        },
-        ReadAnswer::NoSecond => IrigReply {
-            refusal: 21,
-            day_of_year: 0,
-            second_of_day: 0,
-        },
-    }
+    IrigReply::from(irig::read_second(elements))
 }

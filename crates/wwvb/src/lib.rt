@@ -5,21 +5,25 @@ pub mod amplitude;
 pub mod irig_b;
 pub mod pages;
 
-ghost use Rattle.std.specs.Prelude.{◌≡◌, ◌∷◌, length, replicate};
-ghost use Rattle.calendar.specs.Answer.{date_values, date_of_minute, minute_of_date};
+ghost use Rattle.std.specs.Prelude.{◌≡◌, [], ◌∷◌, length};
+ghost use Rattle.calendar.specs.Answer.{date_numbers, minute_numbers, date_of_minute, minute_of_date};
 ghost use Rattle.localtime.specs.Local.{local_of};
 ghost use Rattle.messages.specs.Bytes.{schedule_of};
 ghost use Rattle.format.specs.Questions.{start};
 ghost use Rattle.format.specs.Next.{read_one};
 ghost use Rattle.sequence.specs.Writing.{write_result, buffer_written};
 ghost use Rattle.sequence.specs.Reading.{read_into};
+ghost use Rattle.questions.specs.Refusals.{answer_numbers};
+ghost use Rattle.recording.specs.Answer.{write_numbers};
+ghost use Rattle.entries.specs.Answer.{end_number};
+ghost use Rattle.wwvb.specs.Amplitude.{symbols_reply};
 ghost use Rattle.wwvb.specs.Replies.{plan_of, date_of, reply_numbers, date_reply, minute_reply, write_reply, one_reply, read_reply};
 
-use calendar::{Date, DateAnswer, MinuteAnswer};
+use calendar::Date;
 use format::Due;
-use localtime::LocalAnswer;
+use messages::Schedule;
 use plan::Plan;
-use recording::WriteAnswer;
+use questions::Refusal;
 
 // The refusal or 0, and the date; refused, every other field is 0.
 #[repr(C)]
@@ -59,33 +63,72 @@ pub struct ReadReply {
     pub refusal: usize,
 }
 
-// 0 and a date.
-fn found(date: Date) -> DateReply
-    ensures { date_reply result ≡ 0 ∷ date_values date }
-{
-    DateReply {
-        refusal: 0,
-        year: date.year,
-        month: date.month,
-        day: date.day,
-        hour: date.hour,
-        minute: date.minute,
-        weekday: date.weekday,
+impl From<Result<Date, Refusal>> for DateReply {
+    ghost from_gives = { λ answer reply. date_reply reply ≡ reply_numbers 6 (date_numbers answer) };
+
+    #[tactic(auto, using(crate::proofs::Refused::not_zero), unfolding(crate::specs::Replies::reply_numbers))]
+    fn from(answer: Result<Date, Refusal>) -> DateReply {
+        match answer {
+            Ok(date) => DateReply {
+                refusal: 0,
+                year: date.year,
+                month: date.month,
+                day: date.day,
+                hour: date.hour,
+                minute: date.minute,
+                weekday: date.weekday,
+            },
+            Err(refusal) => DateReply {
+                refusal: u32::from(refusal),
+                year: 0,
+                month: 0,
+                day: 0,
+                hour: 0,
+                minute: 0,
+                weekday: 0,
+            },
+        }
     }
 }
 
-// A refusal and no date.
-fn refused(refusal: u32) -> DateReply
-    ensures { date_reply result ≡ refusal ∷ replicate 6 0 }
+impl From<Result<u32, Refusal>> for MinuteReply {
+    ghost from_gives = { λ answer reply. minute_reply reply ≡ reply_numbers 1 (minute_numbers answer) };
+
+    #[tactic(auto, using(crate::proofs::Refused::not_zero), unfolding(crate::specs::Replies::reply_numbers))]
+    fn from(answer: Result<u32, Refusal>) -> MinuteReply {
+        match answer {
+            Ok(minute) => MinuteReply { refusal: 0, minute },
+            Err(refusal) => MinuteReply {
+                refusal: u32::from(refusal),
+                minute: 0,
+            },
+        }
+    }
+}
+
+impl From<Result<usize, Refusal>> for WriteReply {
+    ghost from_gives = { λ answer reply. (write_reply reply ≡ write_numbers answer)
+        × (symbols_reply reply ≡ reply_numbers 1 (answer_numbers (λ bits. bits ∷ []) answer)) };
+
+    #[tactic(auto, using(crate::proofs::Refused::not_zero), unfolding(crate::specs::Replies::reply_numbers))]
+    fn from(answer: Result<usize, Refusal>) -> WriteReply {
+        match answer {
+            Ok(bits) => WriteReply { refusal: 0, bits },
+            Err(refusal) => WriteReply {
+                refusal: u32::from(refusal) as usize,
+                bits: 0,
+            },
+        }
+    }
+}
+
+// The number of a refusal, or 0.
+fn number(end: Result<(), Refusal>) -> u32
+    ensures { result ≡ end_number end }
 {
-    DateReply {
-        refusal,
-        year: 0,
-        month: 0,
-        day: 0,
-        hour: 0,
-        minute: 0,
-        weekday: 0,
+    match end {
+        Ok(()) => 0,
+        Err(refusal) => u32::from(refusal),
     }
 }
 
@@ -94,11 +137,7 @@ fn refused(refusal: u32) -> DateReply
 pub extern "C" fn wwvb_minute_to_date(minute: u32) -> DateReply
     ensures { date_reply result ≡ reply_numbers 6 (date_of_minute minute) }
 {
-    let answer = Date::from_minute(minute);
-    match answer {
-        DateAnswer::Found(date) => found(date),
-        DateAnswer::TooLarge => refused(3),
-    }
+    DateReply::from(Date::from_minute(minute))
 }
 
 // The local date of a minute with its daylight state, by a standard offset and a change hour.
@@ -106,12 +145,7 @@ pub extern "C" fn wwvb_minute_to_date(minute: u32) -> DateReply
 pub extern "C" fn wwvb_local_date(minute: u32, state: u32, offset: i32, hour: u32) -> DateReply
     ensures { date_reply result ≡ reply_numbers 6 (local_of minute state offset hour) }
 {
-    let answer = localtime::local_date(minute, state, offset, hour);
-    match answer {
-        LocalAnswer::Found(date) => found(date),
-        LocalAnswer::TooLarge => refused(3),
-        LocalAnswer::BadSetting => refused(16),
-    }
+    DateReply::from(localtime::local_date(minute, state, offset, hour))
 }
 
 // The minute of a date.
@@ -133,17 +167,7 @@ pub extern "C" fn wwvb_date_to_minute(
         minute,
         weekday: 0,
     };
-    let answer = date.to_minute();
-    match answer {
-        MinuteAnswer::Found(found) => MinuteReply {
-            refusal: 0,
-            minute: found,
-        },
-        MinuteAnswer::NotReal => MinuteReply {
-            refusal: 15,
-            minute: 0,
-        },
-    }
+    MinuteReply::from(date.to_minute())
 }
 
 // Writes a recording by the plan of the six numbers and its messages, ten bytes each.
@@ -165,22 +189,18 @@ pub extern "C" fn wwvb_write_recording(
         × (out.new
         ≡ buffer_written (schedule_of (plan_of kind spring autumn leap_month leap_sign notice) messages.now) first count out.old) }
 {
-    let plan = Plan {
-        kind,
-        spring,
-        autumn,
-        leap_month,
-        leap_sign,
-        notice,
+    let schedule = Schedule {
+        plan: Plan {
+            kind,
+            spring,
+            autumn,
+            leap_month,
+            leap_sign,
+            notice,
+        },
+        messages,
     };
-    let answer = recording::write_recording(plan, messages, first, count, out);
-    match answer {
-        WriteAnswer::Written(bits) => WriteReply { refusal: 0, bits },
-        WriteAnswer::Refused(question) => {
-            let refusal = question.number() as usize;
-            WriteReply { refusal, bits: 0 }
-        }
-    }
+    WriteReply::from(recording::write_recording(schedule, first, count, out))
 }
 
 // Reads one frame alone into an entry; gives the refusal or 0.
@@ -189,8 +209,7 @@ pub extern "C" fn wwvb_read_frame(bits: &[u8], entry: &mut [u8]) -> u32
     ensures { one_reply result entry.new ≡ read_one start entry.old bits.now }
 {
     let one = entries::read_one(bits, entry, Due::Any);
-    let end = one.end;
-    end.number()
+    number(one.end)
 }
 
 // Reads a recording into entries.
@@ -199,11 +218,9 @@ pub extern "C" fn wwvb_read_recording(bits: &[u8], entries: &mut [u8]) -> ReadRe
     ensures { read_reply result entries.new ≡ read_into entries.old bits.now }
 {
     let summary = entries::read_recording(bits, entries);
-    let end = summary.end;
-    let refusal = end.number() as usize;
     ReadReply {
         entries: summary.entries,
         used: summary.used,
-        refusal,
+        refusal: number(summary.end) as usize,
     }
 }

@@ -35,7 +35,8 @@ returns-then-out-needed c =
 pub put-requires : goal.put-requires
 put-requires c = (
   subst (λ (r : Values). legal_values r ≡ true) (sym (rw c.in_ok-minute.ensures at c.values_at-values.ensures))
-      (sent-legal c.args.schedule.plan c.args.minute c.args.ut1.sign c.args.ut1.tenths (omega (arith, c.in_ok-minute.ensures)) (sym c.is_ut1.ensures ∙ c.if-not-is_ut1.false)),
+      (sent-legal c.args.schedule.plan c.args.minute c.args.ut1.sign c.args.ut1.tenths (omega (arith, c.in_ok-minute.ensures))
+      (sym c.is_ut1.ensures ∙ c.if-not-is_ut1.false)),
   c.if-out-needed.false,
 )
 

@@ -12,7 +12,7 @@ pub loop-i-init : goal.loop-i-init
 unfolding bits
 loop-i-init c =
     let n = c.args.n in
-    (omega arith, c.requires, refl, rw (sub_self n) (sym (div-one c.args.word)), rw (sub_self n))
+    (omega arith, refl, rw (sub_self n) (sym (div-one c.args.word)), rw (sub_self n))
 
 pub loop-i-preserved : goal.loop-i-preserved
 unfolding bits bit
@@ -23,16 +23,12 @@ loop-i-preserved c =
     let k : n - (i - 1) ≡ suc (n - i) = omega arith in
     let j : suc (i - 1) ≡ i = omega arith in (
       omega arith,
-      h.1,
-      length-set c.loop-i.out (i - 1) (c.loop-i.rest % 2) ∙ h.2,
-      rw (k, h.3) (half-shr c.args.word (n - i)),
-      rw (k, drop-set c.loop-i.out (i - 1) (c.loop-i.rest % 2) (omega arith), j, h.4, h.3),
+      length-set c.loop-i.out (i - 1) (c.loop-i.rest % 2) ∙ h.1,
+      rw (k, h.2) (half-shr c.args.word (n - i)),
+      rw (k, drop-set c.loop-i.out (i - 1) (c.loop-i.rest % 2) (omega arith), j, h.3, h.2),
     )
-
-pub shape_of-out : goal.shape_of-out
-shape_of-out c = c.loop-i.invariant.2
 
 pub returns : goal.returns
 returns c =
     let e : c.loop-i.i ≡ 0 = omega arith in
-    rw (e, sub-zero c.args.n) at c.loop-i.invariant.4
+    rw (e, sub-zero c.args.n) at c.loop-i.invariant.3

@@ -9,7 +9,4 @@ use Rattle.bits.proofs.spread_rest.Given as goal
 
 abbrev pub invariant-loop-i : goal.invariant-loop-i
 invariant-loop-i l =
-    (l.i ≤ l.n) × (l.n ≤ length l.initial.out) × (length l.out ≡ length l.initial.out) × (l.rest ≡ l.word / 2 ^ (l.n - l.i)) × (drop l.i l.out ≡ bits (l.n - l.i) l.word ++ drop l.n l.initial.out)
-
-abbrev pub decreases-loop-i : goal.decreases-loop-i
-decreases-loop-i l = l.i
+    (l.i ≤ l.n) × (length l.out ≡ length l.initial.out) × (l.rest ≡ l.word / 2 ^ (l.n - l.i)) × (drop l.i l.out ≡ bits (l.n - l.i) l.word ++ drop l.n l.initial.out)

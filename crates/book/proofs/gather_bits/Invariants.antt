@@ -1,6 +1,5 @@
 -- `book::gather_bits` meets its contract.
 -- Assumes nothing.
-use Prim.Native.Nat.{◌-◌}
 use mathlib.Core.Path.{◌≡◌}
 use lib.ListN.{length}
 use Rattle.book.proofs.Gathering.{GatheredTo}
@@ -8,6 +7,3 @@ use Rattle.book.proofs.gather_bits.Given as goal
 
 abbrev pub invariant-loop-i : goal.invariant-loop-i
 invariant-loop-i l = GatheredTo l.initial.text l.text l.count l.i × (length l.text ≡ length l.initial.text)
-
-abbrev pub decreases-loop-i : goal.decreases-loop-i
-decreases-loop-i l = length l.initial.text - l.i

@@ -3,19 +3,11 @@
 use Prim.Native.Nat.{◌≤◌}
 use native.Mathlib.Omega.{arith}
 use lib.ListN.{length}
-use Rattle.listing.specs.Listing.{refused_text}
-use Rattle.book.proofs.Space.{refused-short, text-listed, never-unlisted}
+use Rattle.book.proofs.Space.{refusal_told}
 use Rattle.book.proofs.put_refusal.Goals as goal
 
-pub returns-in-Listed : goal.returns-in-Listed
-returns-in-Listed c =
-    let space : length (refused_text c.args.number) ≤ length c.args.out.now = omega (arith, c.put_refused-arg-1.given.0.1, refused-short c.args.number (omega arith)) in
+pub returns : goal.returns
+returns c =
     let a = c.args in
-    text-listed (refused_text a.number) a.out.now c.put_refused-answer.new.out space c.in-Listed.n (rw c.in-Listed.is at c.put_refused-answer.ensures)
-
-pub returns-in-NoSpace : goal.returns-in-NoSpace
-returns-in-NoSpace c =
-    let space : length (refused_text c.args.number) ≤ length c.args.out.now = omega (arith, c.put_refused-arg-1.given.0.1, refused-short c.args.number (omega arith)) in
-    let a = c.args in
-    let e = rw c.in-NoSpace.is at c.put_refused-answer.ensures in
-    absurd (never-unlisted (refused_text a.number) a.out.now c.put_refused-answer.new.out space 0 e)
+    let space : 19 ≤ length a.out.now = omega arith in
+    rw c.unwrap_or.ensures (refusal_told a.refusal a.out.now c.put_refused.new.out space c.put_refused.result c.put_refused.ensures)

@@ -2,7 +2,6 @@
 -- Assumes nothing.
 use native.Mathlib.Omega.{arith}
 use Rattle.irig_rules.proofs.Facts.{Real, real, second-high}
-use Rattle.irig_row.specs.Row.{lines_of}
 use Rattle.irig_row.proofs.lines_of.Goals as goal
 use Rattle.irig_row.proofs.lines_of.Goals.{Start}
 
@@ -19,16 +18,3 @@ digits_line-requires-2 c = omega (arith, facts (goal.at.digits_line-requires-2 c
 
 pub digits_line-requires-3 : goal.digits_line-requires-3
 digits_line-requires-3 c = omega (arith, facts (goal.at.digits_line-requires-3 c).Start)
-
-pub returns : goal.returns
-unfolding lines_of
-returns c =
-    rw (
-      c.from-straight.ensures,
-      c.second_of_day.ensures,
-      c.digits_line.ensures.0,
-      c.digits_line-2.ensures.0,
-      c.digits_line-3.ensures.0,
-      c.digits_line-4.ensures.0,
-      c.from.ensures,
-    )

@@ -16,8 +16,8 @@ unfolding behind_spaces
 loop-preserved c =
     let s = c.loop.rest.now in
     let e = ap (behind 32) c.loop.invariant in
-    elim c.match-first_space.branch [
+    elim c.match-place_of.branch [
       | in-Some w ↦
-          rw (w.rest-is, add-one c.loop.counter) (part_to_end s (w.in-Some.space + 1) ∙ behind-some 32 s w.in-Some.space (sym c.first_space.ensures.place ∙ w.in-Some.is) ∙ e)
-      | in-None w ↦ rw (w.rest-is, add-one c.loop.counter) (behind-none 32 s (sym c.first_space.ensures.place ∙ w.in-None.is) ∙ e)
+          rw (w.rest-is, add-one c.loop.counter) (part_to_end s (w.in-Some.space + 1) ∙ behind-some 32 s w.in-Some.space (sym c.place_of.ensures.place ∙ w.in-Some.is) ∙ e)
+      | in-None w ↦ rw (w.rest-is, add-one c.loop.counter) (behind-none 32 s (sym c.place_of.ensures.place ∙ w.in-None.is) ∙ e)
     ]

@@ -3,7 +3,7 @@
 use Rattle.std.specs.Prelude.{Some, None}
 use Prim.Native.Nat.{ℕ, ◌+◌, ◌≤◌}
 use mathlib.Core.Path.{◌≡◌, sym, ap, subst, ◌∙◌}
-use mathlib.Core.Bool.{true}
+use mathlib.Core.Bool.{true, false}
 use native.Mathlib.Omega.{arith}
 use lib.IntN.{ℤ, pos, nat_abs, ◌-ℤ◌}
 use mir.Facts.{to_z-of_z}
@@ -30,7 +30,7 @@ pub returns-in_default : goal.returns-in_default
 unfolding local_of local_questions asked
 returns-in_default c =
     let d = (goal.at.returns-in_default c).After-minutes_behind in
-    let l = not_behind _ _ (sym c.in_default.is ∙ behind d) in
+    let l : legal_offset c.args.offset ≡ false = not_behind _ _ (sym c.in_default.is ∙ behind d) in
     rw (le-leb c.args.minute max_minute (omega arith), unset c.args.state c.args.offset c.args.hour l)
 
 -- an offset of the range

@@ -42,13 +42,13 @@ overflow_add-result c =
     let d = (goal.at.overflow_add-result c).After-read_from-part in
     omega (arith, few d)
 
-pub returns-in-Complete : goal.returns-in-Complete
-returns-in-Complete c =
-    let d = (goal.at.returns-in-Complete c).After-read_from-part in
+pub returns-in-Ok : goal.returns-in-Ok
+returns-in-Ok c =
+    let d = (goal.at.returns-in-Ok c).After-read_from-part in
     let bits : List ℕ = c.args.bits.now in
     let rest : List ℕ = drop c.loop-used.used bits in
     counted-complete c.loop-used.count c.loop-used.due rest _ _ c.read_from-part.result (got d) (read_all bits) c.loop-used.invariant.3
-    c.in-Complete.is
+    _ c.in-Ok.is
 
 pub returns-then-part-lt-PART_ENTRIES : goal.returns-then-part-lt-PART_ENTRIES
 returns-then-part-lt-PART_ENTRIES c =
@@ -56,7 +56,7 @@ returns-then-part-lt-PART_ENTRIES c =
     let bits : List ℕ = c.args.bits.now in
     let rest : List ℕ = drop c.loop-used.used bits in
     counted-refusal c.loop-used.count c.loop-used.due rest _ _ c.read_from-part.result (got d) (read_all bits) c.loop-used.invariant.3 _
-    c.in-Refused.is (omega arith)
+    c.in-Err.is (omega arith)
 
 pub overflow_add-count : goal.overflow_add-count
 overflow_add-count c =
@@ -74,7 +74,7 @@ loop-used-smaller c =
     let bits : List ℕ = c.args.bits.now in
     let rest : List ℕ = drop c.loop-used.used bits in
     let full : (part c.loop-used.due rest).refusal ≡ 5 = out-of-space c.loop-used.count c.loop-used.due rest _ _ c.read_from-part.result (got d) (read_all bits) c.loop-used.invariant.3 _
-    c.in-Refused.is (omega arith) in
+    c.in-Err.is (omega arith) in
     let more : 0 < c.read_from-part.result.used = (let s = sized 10 c.loop-used.due rest in omega (arith, (got d).used, s.long, (s.full full).0)) in
     omega (arith, few d, more)
 
@@ -85,7 +85,7 @@ loop-used-preserved c =
     let rest : List ℕ = drop c.loop-used.used bits in
     let same-space : length c.read_from-part.new.entries ≡ 180 = space-kept c.loop-used.due rest c.loop-used.space c.read_from-part.new.entries c.read_from-part.result (got d) c.loop-used.invariant.2 in
     let full : (part c.loop-used.due rest).refusal ≡ 5 = out-of-space c.loop-used.count c.loop-used.due rest _ _ c.read_from-part.result (got d) (read_all bits) c.loop-used.invariant.3 _
-    c.in-Refused.is (omega arith) in (
+    c.in-Err.is (omega arith) in (
       omega (arith, few d),
       omega (arith, few d),
       same-space,

@@ -1,6 +1,6 @@
 -- `page::put_parts` meets its contract.
 -- Assumes nothing.
-use Prim.Native.Nat.{◌-◌, ◌*◌, ◌≤◌}
+use Prim.Native.Nat.{◌*◌, ◌≤◌}
 use mathlib.Core.Path.{◌≡◌}
 use lib.ListN.{length, take}
 use Rattle.sequence.proofs.Putting.{Put}
@@ -16,6 +16,3 @@ invariant-loop-i l =
     × (length l.space ≡ 180)
     × (rest l.used l.next ≡ rest_from (l.i * 10) l.initial.next l.bits)
     × Put (lines_text (l.i * 10) (take (l.i * 10) (read_on l.initial.next l.bits).entries)) l.initial.out l.out (l.i * 420)
-
-abbrev pub decreases-loop-i : goal.decreases-loop-i
-decreases-loop-i l = 5 - l.i

@@ -17,9 +17,9 @@ pub column-requires : goal.column-requires
 unfolding entry_in
 column-requires c = (lit< tt, (lit≤ tt, omega (arith, c.requires.1.minute)))
 
-pub at_minute-requires : goal.at_minute-requires
+pub invariant_of-at_minute : goal.invariant_of-at_minute
 unfolding entry_in
-at_minute-requires c = rw c.minute_in-minute.ensures c.requires.1.minute
+invariant_of-at_minute c = record { within = rw c.minute_in-minute.ensures c.requires.1.minute }
 
 pub column-requires-2 : goal.column-requires-2
 unfolding entry_in

@@ -22,7 +22,7 @@ use Rattle.sequence.proofs.Tails.{tail, tail-back, length_rest}
 use Rattle.sequence.proofs.Sums.{seconds-snoc, seconds-mono, recording-snoc, length-recording, part-more}
 use Rattle.recording.proofs.Turn.{whole}
 use Rattle.recording.proofs.write_frames.Goals as goal
-use Rattle.recording.proofs.write_frames.Goals.{then-minute-day, else-minute-day, then-minute-due, else-minute-due, In-loop-i}
+use Rattle.recording.proofs.write_frames.Goals.{then-minute-day, else-minute-day, then-minute-due, else-minute-due, In-loop-i, Joined-minute-day}
 
 -- where the next message is the one after the minute
 moved : {s : List ℕ} {m n k d k' d' : ℕ} → m ≡ n → k' ≡ k → d' ≡ d → NextIs s m k d → NextIs s n k' d'
@@ -100,10 +100,7 @@ module _ (c : In-loop-i) where
 pub day_word-word-requires-then-minute-day : goal.day_word-word-requires-then-minute-day
 day_word-word-requires-then-minute-day c =
     let d = (goal.at.day_word-word-requires-then-minute-day c).In-loop-i in
-    let p : Plan = c.args.schedule.plan in
-    let s : List ℕ = c.args.schedule.messages.now in
-    let q : Schedule = schedule_of p s in
-    (plan-legal q (legal d), omega (arith, c.requires.2, c.loop-i-test.true))
+    (plan-legal (q d) (legal d), omega (arith, c.requires.2, c.loop-i-test.true))
 
 pub slice_bounds-write_next-count : goal.slice_bounds-write_next-count
 slice_bounds-write_next-count c =
@@ -115,19 +112,27 @@ slice_bounds-write_next-start c =
     let d = (goal.at.slice_bounds-write_next-start c).In-loop-i in
     omega (arith, fits d, c.loop-i.invariant.1)
 
+-- the day that the minute is in, and its bits
+module _ (c : Joined-minute-day) where
+  day-now : c.if-minute-day.day ≡ (c.args.first + c.loop-i.i) / 1440
+  day-now = elim c.if-minute-day.branch [ then-minute-day w ↦ w.day-is | else-minute-day w ↦ w.day-is ∙ sym w.if-minute-day.false ]
+
+  word-now : c.if-minute-day.word ≡ day_word c.args.schedule.plan c.if-minute-day.day
+  word-now = elim c.if-minute-day.branch [
+    | then-minute-day w ↦ w.word-is ∙ w.day_word-word-then-minute-day.ensures ∙ ap (day_word c.args.schedule.plan) (sym w.day-is)
+    | else-minute-day w ↦ w.word-is ∙ c.loop-i.invariant.3 ∙ ap (day_word c.args.schedule.plan) (sym w.day-is)
+  ]
+
 pub write_next-at-requires : goal.write_next-at-requires
 write_next-at-requires c =
-    let d = (goal.at.write_next-at-requires c).In-loop-i in
-    let p : Plan = c.args.schedule.plan in
-    let m : ℕ = c.args.first in
-    let i : ℕ = c.loop-i.i in
+    let z = goal.at.write_next-at-requires c in
+    let d = z.In-loop-i in
+    let j = z.Joined-minute-day in
     let at : ℕ = c.loop-i.at in
-    let out : List ℕ = c.loop-i.out in
-    let day-now : c.if-minute-day.day ≡ (m + i) / 1440 = elim c.if-minute-day.branch [ then-minute-day w ↦ w.day-is | else-minute-day w ↦ w.day-is ∙ sym w.if-minute-day.false ] in
-    let word-now : c.if-minute-day.word ≡ day_word p c.if-minute-day.day = elim c.if-minute-day.branch [ then-minute-day w ↦ w.word-is ∙ w.day_word-word-then-minute-day.ensures ∙ ap (day_word p) (sym w.day-is) | else-minute-day w ↦ w.word-is ∙ c.loop-i.invariant.3 ∙ ap (day_word p) (sym w.day-is) ] in (
-      (legal d),
-      (next-is d),
-      word-now ∙ ap (day_word p) day-now,
+    let out : List ℕ = c.loop-i.out in (
+      legal d,
+      next-is d,
+      word-now j ∙ ap (day_word (p d)) (day-now j),
       rw (tail out at) (omega (arith, fits d, c.loop-i.invariant.1, length-drop at out)),
     )
 
@@ -136,31 +141,23 @@ overflow_add-at c =
     let d = (goal.at.overflow_add-at c).In-loop-i in
     omega (arith, fits d, c.write_next-at.ensures.0)
 
+-- the minute has a message
+message-is : (d : In-loop-i) → m d + i d ≡ d.loop-i.due → d.loop-i.k < length (s d) / 10
+message-is d e = index (s d) (messages-legal (q d) (legal d)) (m d + i d) d.loop-i.k d.loop-i.due (next-is d) (range d) e
+
 pub overflow_add-k : goal.overflow_add-k
 overflow_add-k c =
-    let d = (goal.at.overflow_add-k c).In-loop-i in
-    let p : Plan = c.args.schedule.plan in
-    let s : List ℕ = c.args.schedule.messages.now in
-    let q : Schedule = schedule_of p s in
-    let m : ℕ = c.args.first in
-    let i : ℕ = c.loop-i.i in
-    omega (arith, c.loop-i.invariant.4.inside, index s (messages-legal q (legal d)) (m + i) c.loop-i.k c.loop-i.due (next-is d) (range d) c.if-minute-due.true)
+    omega (arith, c.loop-i.invariant.4.inside, message-is (goal.at.overflow_add-k c).In-loop-i c.if-minute-due.true)
 
 pub next_minute-due-requires-then-minute-due : goal.next_minute-due-requires-then-minute-due
 next_minute-due-requires-then-minute-due c =
     let d = (goal.at.next_minute-due-requires-then-minute-due c).In-loop-i in
-    let p : Plan = c.args.schedule.plan in
-    let s : List ℕ = c.args.schedule.messages.now in
-    let q : Schedule = schedule_of p s in
-    let m : ℕ = c.args.first in
-    let i : ℕ = c.loop-i.i in (
-      whole q.plan s (legal d),
-      omega (arith, index s (messages-legal q (legal d)) (m + i) c.loop-i.k c.loop-i.due (next-is d) (range d) c.if-minute-due.true),
-    )
+    (whole (p d) (s d) (legal d), omega (arith, message-is d c.if-minute-due.true))
 
 pub loop-i-preserved : goal.loop-i-preserved
 loop-i-preserved c =
-    let d = (goal.at.loop-i-preserved c).In-loop-i in
+    let z = goal.at.loop-i-preserved c in
+    let d = z.In-loop-i in
     let p : Plan = c.args.schedule.plan in
     let s : List ℕ = c.args.schedule.messages.now in
     let q : Schedule = schedule_of p s in
@@ -174,7 +171,6 @@ loop-i-preserved c =
     (part-more (recording q m i) (frame_of (content_at q (m + i))) out₀ out at (length_at p (m + i))
     (length-recording q m i ∙ sym c.loop-i.invariant.0) c.loop-i.invariant.2) in
     let sum : (n : ℕ) → n ≡ length_at p (m + i) → at + n ≡ seconds p m (i + 1) = λ n e. rw (add-one i) (omega (arith, e, c.loop-i.invariant.0, seconds-snoc p m i)) in
-    let word-now : c.if-minute-day.word ≡ day_word p c.if-minute-day.day = elim c.if-minute-day.branch [ then-minute-day w ↦ w.word-is ∙ w.day_word-word-then-minute-day.ensures ∙ ap (day_word p) (sym w.day-is) | else-minute-day w ↦ w.word-is ∙ c.loop-i.invariant.3 ∙ ap (day_word p) (sym w.day-is) ] in
     let next-now : NextIs s (m + (i + 1)) c.if-minute-due.k c.if-minute-due.due = (let ok = messages-legal q (legal d) in
     let a = add_assoc m i 1 in
     elim c.if-minute-due.branch [
@@ -188,7 +184,7 @@ loop-i-preserved c =
       x,
       ap length b ∙ length_rest (recording q m (i + 1)) out₀ (at + n) (length-recording q m (i + 1) ∙ sym x) (omega (arith, fits d)),
       b,
-      word-now,
+      word-now z.Joined-minute-day,
       next-now,
     )
 

@@ -9,4 +9,4 @@ use Rattle.bits.proofs.eight.spread.Goals as goal
 pub returns : goal.returns
 returns c =
     let a = c.args in
-    c.put_bytes.ensures ∙ ap (λ (w : List ℕ). take a.i a.out.now ++ w ++ drop (a.i + 8) a.out.now) c.unpack.ensures.bytes
+    c.put_bytes.ensures ∙ ap (λ (w : List ℕ). take a.i a.out.now ++ w ++ drop (a.i + 8) a.out.now) c.unpack.ensures

@@ -9,7 +9,7 @@ use Rattle.listing.proofs.text.lines_length.Goals as goal
 
 pub loop-i-init : goal.loop-i-init
 unfolding frames frame_lines
-loop-i-init c = (omega arith, refl)
+loop-i-init c = refl
 
 pub overflow_add-sum : goal.overflow_add-sum
 overflow_add-sum c =
@@ -18,7 +18,7 @@ overflow_add-sum c =
     omega (
       arith,
       c.line_length-sum.ensures,
-      c.loop-i.invariant.1,
+      c.loop-i.invariant,
       length-snoc a.plan a.first i,
       lines-small a.plan a.first (suc i) (omega arith),
     )
@@ -27,10 +27,10 @@ pub loop-i-preserved : goal.loop-i-preserved
 loop-i-preserved c =
     let a = c.args in
     let i = c.loop-i.i in
-    (omega arith, rw (add-one i) (omega (arith, c.line_length-sum.ensures, c.loop-i.invariant.1, length-snoc a.plan a.first i)))
+    rw (add-one i) (omega (arith, c.line_length-sum.ensures, c.loop-i.invariant, length-snoc a.plan a.first i))
 
 pub returns : goal.returns
 returns c =
     let a = c.args in
     let e : c.loop-i.i ≡ a.count = omega arith in
-    rw (← e) c.loop-i.invariant.1
+    rw (← e) c.loop-i.invariant

@@ -1,13 +1,9 @@
 -- `listing::text::lines_length` meets its contract.
 -- Assumes nothing.
-use Prim.Native.Nat.{◌-◌, ◌≤◌}
 use mathlib.Core.Path.{◌≡◌}
 use lib.ListN.{length}
 use Rattle.listing.proofs.Texts.{lines_of}
 use Rattle.listing.proofs.text.lines_length.Given as goal
 
 abbrev pub invariant-loop-i : goal.invariant-loop-i
-invariant-loop-i l = (l.i ≤ l.count) × (l.sum ≡ length (lines_of l.plan l.first l.i))
-
-abbrev pub decreases-loop-i : goal.decreases-loop-i
-decreases-loop-i l = l.count - l.i
+invariant-loop-i l = l.sum ≡ length (lines_of l.plan l.first l.i)

@@ -16,58 +16,58 @@ use Rattle.listing.proofs.text.put_line.Goals.{After-put_number}
 
 pub put_number-a-requires : goal.put_number-a-requires
 put_number-a-requires c =
-    let fits : (width c.args.minute + 1) +
-    ((width (length_at c.args.plan c.args.minute) + 1) + (length_at c.args.plan c.args.minute + 1)) ≤ length c.args.out.now = omega (arith, c.requires.2, length-line c.args.plan c.args.minute) in
+    let fits : (width c.args.minute.index + 1) +
+    ((width (length_at c.args.plan c.args.minute.index) + 1) + (length_at c.args.plan c.args.minute.index + 1)) ≤ length c.args.out.now = omega (arith, c.requires.1, length-line c.args.plan c.args.minute.index) in
     omega (arith, fits)
 
 pub slice_bounds-put_number-count : goal.slice_bounds-put_number-count
 slice_bounds-put_number-count c =
-    let fits : (width c.args.minute + 1) +
-    ((width (length_at c.args.plan c.args.minute) + 1) + (length_at c.args.plan c.args.minute + 1)) ≤ length c.args.out.now = omega (arith, c.requires.2, length-line c.args.plan c.args.minute) in
+    let fits : (width c.args.minute.index + 1) +
+    ((width (length_at c.args.plan c.args.minute.index) + 1) + (length_at c.args.plan c.args.minute.index + 1)) ≤ length c.args.out.now = omega (arith, c.requires.1, length-line c.args.plan c.args.minute.index) in
     let out₁ : List ℕ = c.put_number-a.new.out in
-    let one : Put (number_text c.args.minute 32) c.args.out.now out₁ c.put_number-a.result = put_of (number_text c.args.minute 32) c.args.out.now out₁ (width c.args.minute + 1) c.put_number-a.result
-    (length-number c.args.minute 32) (omega (arith, fits)) c.put_number-a.ensures.0 c.put_number-a.ensures.1 in
+    let one : Put (number_text c.args.minute.index 32) c.args.out.now out₁ c.put_number-a.result = put_of (number_text c.args.minute.index 32) c.args.out.now out₁ (width c.args.minute.index + 1) c.put_number-a.result
+    (length-number c.args.minute.index 32) (omega (arith, fits)) c.put_number-a.ensures.0 c.put_number-a.ensures.1 in
     let p : Plan = c.args.plan in
     let p = one in omega (arith, p.room, put-length p)
 
 pub slice_bounds-put_number-start : goal.slice_bounds-put_number-start
 slice_bounds-put_number-start c =
-    let fits : (width c.args.minute + 1) +
-    ((width (length_at c.args.plan c.args.minute) + 1) + (length_at c.args.plan c.args.minute + 1)) ≤ length c.args.out.now = omega (arith, c.requires.2, length-line c.args.plan c.args.minute) in
+    let fits : (width c.args.minute.index + 1) +
+    ((width (length_at c.args.plan c.args.minute.index) + 1) + (length_at c.args.plan c.args.minute.index + 1)) ≤ length c.args.out.now = omega (arith, c.requires.1, length-line c.args.plan c.args.minute.index) in
     let out₁ : List ℕ = c.put_number-a.new.out in
-    let one : Put (number_text c.args.minute 32) c.args.out.now out₁ c.put_number-a.result = put_of (number_text c.args.minute 32) c.args.out.now out₁ (width c.args.minute + 1) c.put_number-a.result
-    (length-number c.args.minute 32) (omega (arith, fits)) c.put_number-a.ensures.0 c.put_number-a.ensures.1 in
+    let one : Put (number_text c.args.minute.index 32) c.args.out.now out₁ c.put_number-a.result = put_of (number_text c.args.minute.index 32) c.args.out.now out₁ (width c.args.minute.index + 1) c.put_number-a.result
+    (length-number c.args.minute.index 32) (omega (arith, fits)) c.put_number-a.ensures.0 c.put_number-a.ensures.1 in
     let p : Plan = c.args.plan in
     let p = one in omega (arith, p.room, put-length p)
 
 pub put_number-requires : goal.put_number-requires
 put_number-requires c =
-    let fits : (width c.args.minute + 1) +
-    ((width (length_at c.args.plan c.args.minute) + 1) + (length_at c.args.plan c.args.minute + 1)) ≤ length c.args.out.now = omega (arith, c.requires.2, length-line c.args.plan c.args.minute) in
+    let fits : (width c.args.minute.index + 1) +
+    ((width (length_at c.args.plan c.args.minute.index) + 1) + (length_at c.args.plan c.args.minute.index + 1)) ≤ length c.args.out.now = omega (arith, c.requires.1, length-line c.args.plan c.args.minute.index) in
     let seconds : ℕ = c.length-seconds.result in
-    let seconds-is : seconds ≡ length_at c.args.plan c.args.minute = c.length-seconds.ensures in
+    let seconds-is : seconds ≡ length_at c.args.plan c.args.minute.index = c.length-seconds.ensures in
     let out₁ : List ℕ = c.put_number-a.new.out in
-    let one : Put (number_text c.args.minute 32) c.args.out.now out₁ c.put_number-a.result = put_of (number_text c.args.minute 32) c.args.out.now out₁ (width c.args.minute + 1) c.put_number-a.result
-    (length-number c.args.minute 32) (omega (arith, fits)) c.put_number-a.ensures.0 c.put_number-a.ensures.1 in
+    let one : Put (number_text c.args.minute.index 32) c.args.out.now out₁ c.put_number-a.result = put_of (number_text c.args.minute.index 32) c.args.out.now out₁ (width c.args.minute.index + 1) c.put_number-a.result
+    (length-number c.args.minute.index 32) (omega (arith, fits)) c.put_number-a.ensures.0 c.put_number-a.ensures.1 in
     rw (rest-length one) (omega (arith, fits, c.put_number-a.ensures.0, seconds-is, ap width seconds-is))
 
 -- what stands in the buffer once two numbers were put
 module _ (c : After-put_number) where
-  fits : (width c.args.minute + 1) +
-      ((width (length_at c.args.plan c.args.minute) + 1) + (length_at c.args.plan c.args.minute + 1)) ≤ length c.args.out.now
-  fits = omega (arith, c.requires.2, length-line c.args.plan c.args.minute)
+  fits : (width c.args.minute.index + 1) +
+      ((width (length_at c.args.plan c.args.minute.index) + 1) + (length_at c.args.plan c.args.minute.index + 1)) ≤ length c.args.out.now
+  fits = omega (arith, c.requires.1, length-line c.args.plan c.args.minute.index)
 
   abbrev out₁ : List ℕ
   out₁ = c.put_number-a.new.out
 
-  one : Put (number_text c.args.minute 32) c.args.out.now out₁ c.put_number-a.result
-  one = put_of (number_text c.args.minute 32) c.args.out.now out₁ (width c.args.minute + 1) c.put_number-a.result
-      (length-number c.args.minute 32) (omega (arith, fits)) c.put_number-a.ensures.0 c.put_number-a.ensures.1
+  one : Put (number_text c.args.minute.index 32) c.args.out.now out₁ c.put_number-a.result
+  one = put_of (number_text c.args.minute.index 32) c.args.out.now out₁ (width c.args.minute.index + 1) c.put_number-a.result
+      (length-number c.args.minute.index 32) (omega (arith, fits)) c.put_number-a.ensures.0 c.put_number-a.ensures.1
 
   abbrev seconds : ℕ
   seconds = c.length-seconds.result
 
-  seconds-is : seconds ≡ length_at c.args.plan c.args.minute
+  seconds-is : seconds ≡ length_at c.args.plan c.args.minute.index
   seconds-is = c.length-seconds.ensures
 
   abbrev at₂ : ℕ
@@ -77,7 +77,7 @@ module _ (c : After-put_number) where
   out₂ = take c.put_number-a.result out₁
       ++ (c.put_number.new.out ++ drop (length out₁ - c.put_number-a.result) (drop c.put_number-a.result out₁))
 
-  two : Put (number_text c.args.minute 32 ++ number_text seconds 32) c.args.out.now out₂ at₂
+  two : Put (number_text c.args.minute.index 32 ++ number_text seconds 32) c.args.out.now out₂ at₂
   two = put-more one
       (put_of (number_text seconds 32) _ c.put_number.new.out (width seconds + 1) c.put_number.result
       (length-number seconds 32) (rw (rest-length one) (omega (arith, fits, c.put_number-a.ensures.0, ap width seconds-is)))
@@ -103,7 +103,7 @@ slice_bounds-put_frame-start c =
 pub put_frame-requires : goal.put_frame-requires
 put_frame-requires c =
     let d = (goal.at.put_frame-requires c).After-put_number in
-    (c.requires.0, c.requires.1, rw (rest-length (two d)) (omega (arith, fits d, c.put_number-a.ensures.0, c.put_number.ensures.0, ap width (seconds-is d))))
+    (c.requires.0, rw (rest-length (two d)) (omega (arith, fits d, c.put_number-a.ensures.0, c.put_number.ensures.0, ap width (seconds-is d))))
 
 pub overflow_add-result : goal.overflow_add-result
 overflow_add-result c =
@@ -111,7 +111,7 @@ overflow_add-result c =
     let seconds : ℕ = c.length-seconds.result in
     let at₂ : ℕ = c.put_number-a.result + c.put_number.result in
     let p : Plan = c.args.plan in
-    let m : ℕ = c.args.minute in
+    let m : ℕ = c.args.minute.index in
     let three : Put (line_of p m) c.args.out.now
     (take at₂ (out₂ d) ++ (c.put_frame.new.out ++ drop (length (out₂ d) - at₂) (drop at₂ (out₂ d)))) (at₂ + c.put_frame.result) = rw (← line-is p m seconds (seconds-is d))
     (put-more (two d)
@@ -127,7 +127,7 @@ returns c =
     let seconds : ℕ = c.length-seconds.result in
     let at₂ : ℕ = c.put_number-a.result + c.put_number.result in
     let p : Plan = c.args.plan in
-    let m : ℕ = c.args.minute in
+    let m : ℕ = c.args.minute.index in
     let three : Put (line_of p m) c.args.out.now
     (take at₂ (out₂ d) ++ (c.put_frame.new.out ++ drop (length (out₂ d) - at₂) (drop at₂ (out₂ d)))) (at₂ + c.put_frame.result) = rw (← line-is p m seconds (seconds-is d))
     (put-more (two d)

@@ -14,7 +14,7 @@ use Rattle.listing.proofs.text.put_lines.Goals.{In-loop-i}
 pub loop-i-init : goal.loop-i-init
 unfolding frames frame_lines
 loop-i-init c =
-    (omega arith, record { size = refl; room = omega arith; is = refl })
+    record { size = refl; room = omega arith; is = refl }
 
 -- in a turn the next line fits
 module _ (c : In-loop-i) where
@@ -30,14 +30,14 @@ module _ (c : In-loop-i) where
   fits : c.loop-i.at + length (line_of p (m + i)) ≤ length c.args.out.now
   fits = omega (
     arith,
-    c.loop-i.invariant.1.size,
+    c.loop-i.invariant.size,
     length-snoc p m i,
     lines-mono p m (suc i) c.args.count c.loop-i-test.true,
     c.requires.2,
   )
 
   within : c.loop-i.at ≤ length c.loop-i.out
-  within = omega (arith, fits, put-length c.loop-i.invariant.1)
+  within = omega (arith, fits, put-length c.loop-i.invariant)
 
 pub slice_bounds-put_line-count : goal.slice_bounds-put_line-count
 slice_bounds-put_line-count c =
@@ -52,7 +52,7 @@ slice_bounds-put_line-start c =
 pub put_line-at-requires : goal.put_line-at-requires
 put_line-at-requires c =
     let d = (goal.at.put_line-at-requires c).In-loop-i in
-    (c.requires.0, omega (arith, c.requires.1), rw (rest-length c.loop-i.invariant.1) (omega (arith, fits d)))
+    (c.requires.0, rw (rest-length c.loop-i.invariant) (omega (arith, fits d)))
 
 pub overflow_add-at : goal.overflow_add-at
 overflow_add-at c =
@@ -66,20 +66,18 @@ loop-i-preserved c =
     let m : ℕ = c.args.first in
     let i : ℕ = c.loop-i.i in
     let w = c.put_line-at in
-    let l = line_of p (m + i) in (
-      omega arith,
-      rw (add-one i, lines_snoc p m i)
-          (put-more c.loop-i.invariant.1
-          (put_of l _ w.new.out (length l) w.result refl (rw (rest-length c.loop-i.invariant.1) (omega (arith, fits d))) w.ensures.0 w.ensures.1)),
-    )
+    let l = line_of p (m + i) in
+    rw (add-one i, lines_snoc p m i)
+    (put-more c.loop-i.invariant
+    (put_of l _ w.new.out (length l) w.result refl (rw (rest-length c.loop-i.invariant) (omega (arith, fits d))) w.ensures.0 w.ensures.1))
 
 pub shape_of-out : goal.shape_of-out
 shape_of-out c =
-    put-length c.loop-i.invariant.1
+    put-length c.loop-i.invariant
 
 pub returns : goal.returns
 returns c =
     let a = c.args in
     let l = c.loop-i in
     let e : l.i ≡ a.count = omega arith in
-    rw (← e, l.invariant.1.size) l.invariant.1.is
+    rw (← e, l.invariant.size) l.invariant.is

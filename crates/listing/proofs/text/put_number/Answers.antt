@@ -2,9 +2,9 @@ use Prim.Native.Nat.{ℕ, ◌+◌}
 use mathlib.Core.Path.{ap}
 use Rattle.listing.proofs.Texts.{number_put}
 use Rattle.listing.proofs.text.put_number.Goals as goal
+
 -- `listing::text::put_number` meets its contract.
 -- Assumes nothing.
-use Rattle.listing.proofs.text.put_number.Tie as tie
 
 pub returns : goal.returns
 returns c =
