@@ -1,7 +1,7 @@
 // What `vectors` tries of pages: recordings printed.
 #![tactic(auto)]
 
-use page::{PAGE_SIZE, PrintAnswer};
+use page::PAGE_SIZE;
 use page_lines::LINE_SIZE;
 use std::io;
 use std::io::Write;
@@ -19,9 +19,6 @@ const LONG_BITS: usize = 60 + 20_160 * 120;
 
 const LONG_SPACE: usize = 807 * PAGE_SIZE + 2;
 
-// The lines of a page.
-const PAGE_LINES: usize = 52;
-
 const BLANK: u8 = b' ';
 
 // The last column of the minute, and that of the line.
@@ -29,118 +26,58 @@ const MINUTE_END: usize = 7;
 
 const LINE_END: usize = 40;
 
-// Shows line k of a page, unless it is blank: no other line is blank in both columns.
-fn line<W: Write>(to: &mut W, page: &[u8], k: usize) -> io::Result<()> {
-    let from = k % PAGE_LINES * LINE_SIZE;
-    let end = from + LINE_END;
-    if end < page.len() {
-        if page[from + MINUTE_END] != BLANK || page[end] != BLANK {
-            show::end(to)?;
-            show::text(to, &page[from..end + 1])?;
-        }
-    }
-    Ok(())
-}
-
-// Shows the lines of a page that are not blank.
+// Shows the lines of a page that are not blank: no other line is blank in both columns.
 fn lines<W: Write>(to: &mut W, page: &[u8]) -> io::Result<()> {
-    for k in 0..PAGE_LINES {
-        line(to, page, k)?;
+    for line in page.chunks_exact(LINE_SIZE) {
+        if LINE_END < line.len() && (line[MINUTE_END] != BLANK || line[LINE_END] != BLANK) {
+            show::end(to)?;
+            show::text(to, &line[..=LINE_END])?;
+        }
     }
     Ok(())
 }
 
-// Shows the last page of the first n bytes.
-fn last_page<W: Write>(to: &mut W, text: &[u8], n: usize) -> io::Result<()> {
-    if PAGE_SIZE <= n && n <= text.len() {
-        lines(to, &text[n - PAGE_SIZE..n])?;
-    }
-    Ok(())
-}
-
-// Prints to the front of the bytes: the refusal or 0 is shown, the number of bytes given back.
-fn print_front<W: Write>(
-    to: &mut W,
-    bits: &[u8],
-    out: &mut [u8],
-    space: usize,
-) -> io::Result<usize> {
-    if out.len() < space {
-        return Ok(0);
-    }
-    let answer = page::print_pages(bits, &mut out[0..space]);
-    match answer {
-        PrintAnswer::Written(n) => {
-            show::value(to, 0)?;
-            Ok(n)
-        }
-        PrintAnswer::NoSpace => {
-            show::value(to, 4)?;
-            Ok(0)
-        }
-        PrintAnswer::Refused(refusal) => {
-            show::value(to, refusal.number())?;
-            Ok(0)
-        }
-    }
-}
-
-// Prints the first n bits into so many bytes: the refusal or 0, the number of bytes, the check sum of the text with every byte after
+// Prints the bits into so many bytes: the refusal or 0, the number of bytes, the check sum of the text with every byte after
 // it, and the lines of the last page that are not blank.
-fn print<W: Write>(
-    to: &mut W,
-    bits: &[u8],
-    n: usize,
-    out: &mut [u8],
-    space: usize,
-) -> io::Result<()> {
-    if n <= bits.len() {
-        let size = print_front(to, &bits[0..n], out, space)?;
-        show::size(to, size)?;
-        show::value(to, cases::check_sum(out))?;
-        last_page(to, out, size)?;
+fn print<W: Write>(to: &mut W, bits: &[u8], out: &mut [u8], space: usize) -> io::Result<()> {
+    let answer = show::front(to, out, space, |out| Some(page::print_pages(bits, out)))?;
+    let n = answer.unwrap_or(0);
+    show::size(to, n)?;
+    show::value(to, cases::check_sum(out))?;
+    if PAGE_SIZE <= n && n <= out.len() {
+        lines(to, &out[n - PAGE_SIZE..n])?;
     }
     Ok(())
 }
 
-// Prints n given bits; the first number is the space.
-pub fn given<W: Write>(to: &mut W, text: &[u8], digits: &[u8], n: usize) -> io::Result<()> {
-    let mut bits = [0u8; BIT_SPACE];
+// Prints given bits; the first number is the space.
+pub fn given<W: Write>(to: &mut W, text: &[u8], digits: &[u8]) -> io::Result<()> {
+    let mut space = [0u8; BIT_SPACE];
     let mut out = [7u8; PAGES_SPACE];
-    cases::load(digits, &mut bits);
-    print(to, &bits, n, &mut out, cases::size(text, 0))
+    let Some(bits) = space.get_mut(..digits.len()) else {
+        return Ok(());
+    };
+    cases::load(digits, bits);
+    print(to, bits, &mut out, cases::size(text, 0))
 }
 
 // `plan .. sends FIRST COUNT, SPACE bytes for pages:` writes, and prints what was written. The messages of a plan come last.
 pub fn sent<W: Write>(to: &mut W, text: &[u8]) -> io::Result<()> {
-    let mut bits = [0u8; SENT_SPACE];
+    let mut space = [0u8; SENT_SPACE];
     let mut out = [7u8; PAGES_SPACE];
-    let answer = sending::write(text, cases::number(text, 7), 9, &mut bits);
-    print(to, &bits, answer.bits, &mut out, cases::size(text, 8))
-}
-
-// The place after place k of n bits, of which those from the first on are repeated.
-fn next(k: usize, first: usize, n: usize) -> usize {
-    if k < n {
-        let after = k + 1;
-        if after < n {
-            return after;
-        }
+    let n = sending::write(text, cases::number(text, 7), 9, &mut space).unwrap_or(0);
+    if let Some(bits) = space.get(..n) {
+        print(to, bits, &mut out, cases::size(text, 8))?;
     }
-    first
-}
-
-// The bit in place k, or 0 after the last.
-fn bit(bits: &[u8], k: usize) -> u8 {
-    if k < bits.len() { bits[k] } else { 0 }
+    Ok(())
 }
 
 // Fills the bytes with n bits, of which those from the first on are repeated.
 fn fill(bits: &[u8], first: usize, n: usize, out: &mut [u8]) {
     let mut k: usize = 0;
     for place in out.iter_mut() {
-        *place = bit(bits, k);
-        k = next(k, first, n);
+        *place = bits.get(k).copied().unwrap_or(0);
+        k = if k < n && k + 1 < n { k + 1 } else { first };
     }
 }
 
@@ -157,11 +94,15 @@ fn print_long<W: Write>(
     let mut bits = [0u8; BIT_SPACE];
     cases::load(digits, &mut bits);
     fill(&bits, cases::size(text, 0), n, all);
-    print(to, all, cases::size(text, 1), out, cases::size(text, 2))
+    if let Some(bits) = all.get(..cases::size(text, 1)) {
+        print(to, bits, out, cases::size(text, 2))?;
+    }
+    Ok(())
 }
 
-pub fn long<W: Write>(to: &mut W, text: &[u8], digits: &[u8], n: usize) -> io::Result<()> {
+// Where number 0 is not below n, the bit in its place is repeated, which stands behind the given bits.
+pub fn long<W: Write>(to: &mut W, text: &[u8], behind: &[u8], n: usize) -> io::Result<()> {
     let mut all = [0u8; LONG_BITS];
     let mut out = [7u8; LONG_SPACE];
-    print_long(to, text, digits, n, &mut all, &mut out)
+    print_long(to, text, behind, n, &mut all, &mut out)
 }

@@ -6,6 +6,8 @@
 mod calls;
 mod listings;
 
+ghost use Rattle.std.specs.Prelude.{◌<◌, ◌≤◌, length, IfSome};
+
 use std::io;
 use std::io::Write;
 use trials::show;
@@ -19,25 +21,39 @@ const SPACE: u8 = b' ';
 
 const HASH: u8 = b'#';
 
+// Where a byte first stands.
+fn place(s: &[u8], byte: u8) -> Option<usize>
+    ensures within { IfSome result (λ i. i < length s.now) }
+    ensures fits { IfSome result (λ i. i < usize.MAX) }
+{
+    s.iter().position(|b| *b == byte)
+}
+
 // Tries one case: the first n bytes of the input that is left.
-fn case<W: Write>(to: &mut W, rest: &[u8], n: usize) -> io::Result<()> {
-    let space = spans::find(rest, 0, rest.len(), SPACE);
-    let hash = spans::find(rest, 0, rest.len(), HASH);
-    if space < hash && hash < rest.len() && hash < n {
-        show::text(to, &rest[space + 1..hash])?;
-        calls::call(to, rest[0], &rest[0..hash], &rest[hash + 1..], n - hash - 1)?;
-        show::end(to)?;
+fn case<W: Write>(to: &mut W, rest: &[u8], n: usize) -> io::Result<()>
+    requires { n ≤ length rest.now }
+{
+    let line = &rest[..n];
+    if let (Some(space), Some(hash)) = (place(line, SPACE), place(line, HASH)) {
+        if space < hash {
+            show::text(to, &line[space + 1..hash])?;
+            calls::call(to, line[0], &line[..hash], &rest[hash + 1..], n - hash - 1)?;
+            show::end(to)?;
+        }
     }
     Ok(())
 }
 
 // Tries each case, up to the first that could not be written.
 fn cases<W: Write>(to: &mut W, input: &[u8]) -> io::Result<()> {
-    let mut at: usize = 0;
-    while at < input.len() {
-        let end = spans::find(input, at, input.len(), LINE_FEED);
-        case(to, &input[at..], end - at)?;
-        at = end + 1;
+    let mut rest = input;
+    while !rest.is_empty() {
+        let end = place(rest, LINE_FEED);
+        case(to, rest, end.unwrap_or(rest.len()))?;
+        rest = match end {
+            Some(n) => &rest[n + 1..],
+            None => &[],
+        };
     }
     Ok(())
 }
