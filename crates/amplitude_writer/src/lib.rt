@@ -86,13 +86,23 @@ fn fields_of(r: Values) -> Fields
     }
 }
 
-// Writes the markers after second 58.
+// Second 60, which a minute with a positive leap second has.
+const LEAP_SECOND: usize = plan::MAX_FRAME as usize - 1;
+
+// Writes the markers after second 58, one by one: to fill a part of any length the compiler calls `memset`, and the shared library has none.
 fn put_ends(seconds: usize, out: &mut [u8])
     requires { (min_frame ≤ seconds) × (seconds ≤ max_frame) × (seconds ≤ length out.old) }
     ensures { out.new
         ≡ take min_frame out.old ++ replicate (seconds - min_frame) marker ++ drop seconds out.old }
 {
-    out[ROW..seconds].fill(MARKER);
+    if seconds <= ROW {
+        return;
+    }
+    out[ROW] = MARKER;
+    if seconds <= LEAP_SECOND {
+        return;
+    }
+    out[LEAP_SECOND] = MARKER;
 }
 
 // Writes the symbols of a minute.
