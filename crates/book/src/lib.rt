@@ -73,7 +73,7 @@ fn put_refusal(refusal: Refusal, out: &mut [u8; BOOK_SPACE]) -> usize
         × (out.new
         ≡ refused_text (refusal_number refusal) ++ drop (length (refused_text (refusal_number refusal))) out.old) }
 {
-    listing::put_refused(refusal, out).unwrap_or(0)
+    listing::put_refused(u32::from(refusal), out).unwrap_or(0)
 }
 
 // Writes the pages of a recording, or its refusal; gives the length of the text.

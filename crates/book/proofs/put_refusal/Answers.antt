@@ -10,4 +10,4 @@ pub returns : goal.returns
 returns c =
     let a = c.args in
     let space : 19 ≤ length a.out.now = omega arith in
-    rw c.unwrap_or.ensures (refusal_told a.refusal a.out.now c.put_refused.new.out space c.put_refused.result c.put_refused.ensures)
+    rw c.unwrap_or.ensures (refusal_told a.refusal a.out.now c.put_refused.new.out space c.put_refused.result (rw (← c.from.ensures) c.put_refused.ensures))

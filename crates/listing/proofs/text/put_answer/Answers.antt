@@ -18,4 +18,4 @@ returns-in-None c =
 pub returns-in-Some : goal.returns-in-Some
 returns-in-Some c =
     let q = c.args.request in
-    rw (← refused-answer q c.in-Some.refusal (rw c.in-Some.is at c.refusal_with_room.ensures)) c.put_refused.ensures
+    rw (← refused-answer q c.in-Some.refusal (rw c.in-Some.is at c.refusal_with_room.ensures)) (rw (← c.from.ensures) c.put_refused.ensures)
