@@ -10,7 +10,7 @@ ghost use Rattle.amplitude_rules.specs.Amplitude.{sign_bits, legal_sign, legal_u
 ghost use Rattle.amplitude_rules.specs.Writing.{warning_at, values_at, write_amplitude, symbols_written};
 ghost use Rattle.amplitude_writer.specs.Answer.{write_numbers};
 
-use amplitude_row::{MARKER, MINUS, PLUS, ROW};
+use amplitude_row::{LEAP_SECOND, MARKER, MINUS, PLUS, ROW};
 use amplitude_rules::{Fields, Ut1, Values};
 use calendar::Minute;
 use codewords::LeapState;
@@ -48,7 +48,7 @@ fn warning(plan: Plan, minute: u32) -> u32
 fn daylight(plan: Plan, minute: Minute) -> u32
     ensures { result ≡ daylight_number (daylight_at plan minute.index) }
 {
-    u32::from(u8::from(plan.daylight(minute)))
+    u32::from(u8::from(plan.daylight(minute.index)))
 }
 
 // The values that a plan gives a minute, with the caller's UT1.
@@ -85,9 +85,6 @@ fn fields_of(r: Values) -> Fields
         daylight: r.daylight,
     }
 }
-
-// Second 60, which a minute with a positive leap second has.
-const LEAP_SECOND: usize = plan::MAX_FRAME as usize - 1;
 
 // Writes the markers after second 58, one by one: to fill a part of any length the compiler calls `memset`, and the shared library has none.
 fn put_ends(seconds: usize, out: &mut [u8])

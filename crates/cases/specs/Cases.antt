@@ -58,6 +58,10 @@ plan_in text =
       notice = number_at 5 text;
     }
 
+-- how many minutes are asked for: 1 with the letter s, for a frame, else number 7
+unfoldable pub count_in : ℕ → List ℕ → ℕ
+count_in letter text = let n = number_at 7 text in pick (letter == 115) 1 n
+
 -- ---- messages
 
 -- the byte of a number that has so many bytes after it

@@ -3,7 +3,7 @@
 
 ghost use Rattle.std.specs.Prelude.{◌≡◌, ℕ, ◌+◌, ◌*◌, ◌%◌, ◌<◌, length, slice_index};
 ghost use Rattle.bits.specs.Bits.{pick};
-ghost use Rattle.cases.specs.Cases.{outside, stepped, long_at, number_at, signed_at, plan_in, byte_of, message_byte, given_at, check_sum};
+ghost use Rattle.cases.specs.Cases.{outside, stepped, long_at, number_at, signed_at, plan_in, count_in, byte_of, message_byte, given_at, check_sum};
 
 use plan::Plan;
 
@@ -104,6 +104,14 @@ pub fn plan(text: &[u8]) -> Plan
         leap_sign: signed(text, 4),
         notice: number(text, 5),
     }
+}
+
+// The count of minutes that a text asks for: 1 where the letter says that a frame is sent, else number 7.
+#[tactic(auto, unfolding(crate::specs::Cases::count_in))]
+pub fn count(letter: u8, text: &[u8]) -> u32
+    ensures { result ≡ count_in letter text.now }
+{
+    if letter == b's' { 1 } else { number(text, 7) }
 }
 
 // The byte of a number that has so many bytes after it.

@@ -7,7 +7,7 @@ ghost use Rattle.std.specs.Prelude.{◌≡◌, true, ◌&&◌, ◌++◌, ◌-◌
 ghost use Rattle.questions.specs.Questions.{asked};
 ghost use Rattle.bits.specs.Bits.{bits, number, pick, is_bit, is_zero, all};
 ghost use Rattle.gregorian.specs.Gregorian.{day_count};
-ghost use Rattle.calendar.specs.Calendar.{last_of_month};
+ghost use Rattle.calendar.specs.Calendar.{minute_count, last_of_month};
 ghost use Rattle.codewords.specs.CodeWords.{leap_number, state_number, state_of};
 ghost use Rattle.plan.specs.Plan.{legal_plan, length_at};
 ghost use Rattle.format.specs.Frame.{min_frame, usual_frame, max_frame, sent_by, body_of, frame, state_in};
@@ -18,7 +18,7 @@ ghost use Rattle.format.specs.Questions.{follows, enough, time_questions};
 ghost use Rattle.format.specs.Next.{refused, entry, read_next};
 ghost use Rattle.frame.specs.Answer.{frame_numbers};
 
-use calendar::{Date, Minute};
+use calendar::Date;
 use codewords::{LeapState, State};
 use format::Due;
 use plan::Plan;
@@ -71,7 +71,7 @@ pub fn day_word(plan: Plan, day: u32) -> u64
     requires { (legal_plan plan ≡ true) × (day < day_count) }
     ensures { result ≡ day_word plan day }
 {
-    let minute = Minute { index: day * 1440 };
+    let minute = day * 1440;
     let state = plan.state(minute);
     let next = codewords::next_word(plan.row_for(minute, state.daylight));
     let state = codewords::state_word(state);
@@ -103,12 +103,14 @@ pub fn put_frame(plan: Plan, minute: u32, word: u64, out: &mut [u8]) -> usize
 }
 
 // Bits 0 to 58 of the time frame of a minute, as a number, from the bits of its day.
-pub fn time_frame(plan: Plan, minute: Minute, day: u64) -> u64
-    requires { (legal_plan plan ≡ true) × (day ≡ day_word plan («minute».index / 1440)) }
-    ensures { result ≡ number (body_of (sent_by plan «minute».index)) }
+pub fn time_frame(plan: Plan, minute: u32, day: u64) -> u64
+    requires { (legal_plan plan ≡ true)
+        × («minute» < minute_count)
+        × (day ≡ day_word plan («minute» / 1440)) }
+    ensures { result ≡ number (body_of (sent_by plan «minute»)) }
 {
-    let time = timeword::encode(minute.index);
-    let echo = minute.index % 2;
+    let time = timeword::encode(minute);
+    let echo = minute % 2;
     layout::time_part(u64::from(time), u64::from(echo)) * 4096 + day
 }
 
@@ -121,16 +123,17 @@ pub fn message_frame(plan: Plan, minute: u32, payload: u64) -> u64
 }
 
 // Writes the time frame of a minute to the front of out, from the bits of its day; gives its length.
-pub fn write_frame(plan: Plan, minute: Minute, day: u64, out: &mut [u8]) -> usize
+pub fn write_frame(plan: Plan, minute: u32, day: u64, out: &mut [u8]) -> usize
     requires { (legal_plan plan ≡ true)
-        × (day ≡ day_word plan («minute».index / 1440))
-        × (length_at plan «minute».index ≤ length out.old) }
-    ensures { (result ≡ length_at plan «minute».index)
+        × («minute» < minute_count)
+        × (day ≡ day_word plan («minute» / 1440))
+        × (length_at plan «minute» ≤ length out.old) }
+    ensures { (result ≡ length_at plan «minute»)
         × (out.new
-        ≡ frame (sent_by plan «minute».index) ++ drop (length_at plan «minute».index) out.old) }
+        ≡ frame (sent_by plan «minute») ++ drop (length_at plan «minute») out.old) }
 {
     let word = time_frame(plan, minute, day);
-    put_frame(plan, minute.index, word, out)
+    put_frame(plan, minute, word, out)
 }
 
 // ---- reading

@@ -13,7 +13,7 @@ const OUT_SPACE: usize = 104;
 // Reads elements: the refusal, or 0, the day of the year and the second of the day.
 fn read<W: Write>(to: &mut W, elements: &[u8]) -> io::Result<()> {
     match irig::read_second(elements) {
-        Ok(seconds) => write!(to, " 0 {} {}", seconds.day, seconds.second),
+        Ok(seconds) => show::found_pair(to, seconds.day, seconds.second),
         Err(refusal) => show::refusal(to, refusal),
     }
 }

@@ -19,6 +19,7 @@ pub struct Schedule<'a> {
 impl Schedule<'_> {
     // Question 1.
     #[tactic(auto, unfolding(crate::specs::Message::legal_schedule))]
+    #[inline(always)]
     pub fn is_legal(self) -> bool
         ensures { result ≡ legal_schedule (schedule_of self.entry.plan self.entry.messages.now) }
     {

@@ -7,7 +7,7 @@ ghost use Rattle.page_rules.specs.Page.{blanks, aligned, line, feed};
 ghost use Rattle.page_rules.specs.Theorems.{Fits};
 ghost use Rattle.page_columns.specs.Bytes.{entry_in};
 
-use calendar::{Date, Minute};
+use calendar::Date;
 
 // The bytes of a line with its line feed.
 pub const LINE_SIZE: usize = 42;
@@ -46,11 +46,9 @@ pub fn put_line(entry: &[u8], out: &mut [u8])
     requires { (length entry.now ≡ entry_size) × Fits (entry_in entry.now) × (42 ≤ length out.old) }
     ensures { out.new ≡ feed (line (entry_in entry.now)) ++ drop 42 out.old }
 {
-    let minute = Minute {
-        index: page_columns::minute_in(entry),
-    };
+    let minute = page_columns::minute_in(entry);
     let seconds = u32::from(entry[4]);
-    out[..9].copy_from_slice(&page_columns::column::<9>(minute.index, BLANK));
+    out[..9].copy_from_slice(&page_columns::column::<9>(minute, BLANK));
     out[9..26].copy_from_slice(&page_columns::moment_columns(Date::at_minute(minute)));
     out[26..29].copy_from_slice(&page_columns::column::<3>(seconds, BLANK));
     out[29..LINE_SIZE].copy_from_slice(&page_columns::last_columns(entry));

@@ -48,7 +48,7 @@ fn word_sent(schedule: Schedule, k: usize, due: u32, minute: Minute, day: u64) -
         let payload = messages::payload_at(schedule.messages, k);
         frame::message_frame(schedule.plan, minute.index, payload)
     } else {
-        frame::time_frame(schedule.plan, minute, day)
+        frame::time_frame(schedule.plan, minute.index, day)
     }
 }
 

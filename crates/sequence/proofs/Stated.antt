@@ -5,7 +5,7 @@ use Rattle.sequence.specs.Demand.{Demand3, InversionsAlone, NothingInverted, Len
 use Rattle.sequence.specs.RoundTrip.{ReadsBack, LengthsSum, WrittenReadsBack, SingleReadsBack, WrittenBitInverted}
 use Rattle.sequence.specs.Bench.{BenchTable}
 use Rattle.sequence.specs.Unread.{UnreadBitsChangeNothing, UnreadBitsOfOneFrame}
-use Rattle.sequence.specs.Refusals.{WriteOrder, WriteAccepted, WriteRefused, WriteAnswers, WriteDone, WriteUndone, OrderAfter, RecordingRead, RecordingOnly, RecordingAccepted, RecordingRefused, RecordingAnswers, RecordingKept}
+use Rattle.sequence.specs.Refusals.{WriteOrder, WriteAccepted, WriteRefused, WriteAnswers, WriteDone, WriteUndone, OrderAfter, RecordingRead, RecordingOnly, RecordingAccepted, RecordingRefused, RecordingAnswers, FromAnswers, RecordingKept}
 use Rattle.sequence.specs.FalseMinute.{FalseMinute, FalseMinuteOfWhole}
 use Rattle.sequence.specs.Leap.{LeapLastRead}
 use Rattle.sequence.proofs.Refusals.{write-order, write-accepted, write-refused, write-answers, write_done, write-undone}
@@ -14,7 +14,7 @@ use Rattle.sequence.proofs.ReadBack.{reads-back, lengths-sum, written-reads-back
 use Rattle.sequence.proofs.Bench.{bench-table}
 use Rattle.sequence.proofs.Demand.{demand-3}
 use Rattle.sequence.proofs.Unread.{unread-bits-change-nothing, unread-bits-of-one-frame}
-use Rattle.sequence.proofs.ReadRefusals.{order-after, recording-read, recording-only, recording-accepted, recording-refused, recording-answers}
+use Rattle.sequence.proofs.ReadRefusals.{order-after, recording-read, recording-only, recording-accepted, recording-refused, recording-answers, from-answers}
 use Rattle.sequence.proofs.Kept.{read-in-parts, state-at-end, recording-kept}
 use Rattle.sequence.proofs.FalseMinute.{false-minute, false-minute-of-whole}
 use Rattle.sequence.proofs.Leap.{leap-last-read}
@@ -96,6 +96,9 @@ recording-refused' = recording-refused
 
 recording-answers' : RecordingAnswers
 recording-answers' = recording-answers
+
+from-answers' : FromAnswers
+from-answers' = from-answers
 
 recording-kept' : RecordingKept
 recording-kept' = recording-kept

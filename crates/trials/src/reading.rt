@@ -33,7 +33,7 @@ fn state<W: Write>(to: &mut W, due: Due) -> io::Result<()> {
     show::text(to, b", then")?;
     match due {
         Due::Any => show::text(to, b" any"),
-        Due::Minute(minute, leap) => write!(to, " {minute} {leap}"),
+        Due::Minute(minute, leap) => show::due(to, minute, leap),
     }
 }
 

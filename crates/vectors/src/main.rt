@@ -6,7 +6,7 @@
 mod calls;
 mod listings;
 
-ghost use Rattle.std.specs.Prelude.{◌<◌, ◌≤◌, length, IfSome};
+ghost use Rattle.std.specs.Prelude.{◌≡◌, ◌==◌, ◌<◌, ◌≤◌, length, position, IfSome};
 
 use std::io;
 use std::io::Write;
@@ -23,6 +23,7 @@ const HASH: u8 = b'#';
 
 // Where a byte first stands.
 fn place(s: &[u8], byte: u8) -> Option<usize>
+    ensures place { result ≡ position (λ b. b == byte) s.now }
     ensures within { IfSome result (λ i. i < length s.now) }
     ensures fits { IfSome result (λ i. i < usize.MAX) }
 {

@@ -9,7 +9,7 @@ ghost use Rattle.wwvb.specs.Amplitude.{symbols_reply, accepted_reply, refused_re
 
 use crate::WriteReply;
 use amplitude_rules::{Ut1, Values};
-use calendar::{Date, Minute};
+use calendar::Date;
 use messages::Schedule;
 use plan::Plan;
 
@@ -75,9 +75,7 @@ fn accepted(values: Values) -> AmplitudeReply
     requires { legal_values values ≡ true }
     ensures { result ≡ accepted_reply values }
 {
-    let date = Date::at_minute(Minute {
-        index: values.minute,
-    });
+    let date = Date::at_minute(values.minute);
     AmplitudeReply {
         refusal: 0,
         year: date.year,

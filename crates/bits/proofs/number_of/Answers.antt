@@ -7,6 +7,8 @@ use lib.ListN.{length, get_or, take, drop}
 use lib.Pow.{pow_mono}
 use lib.Seq.{drop-length, get_or-drop}
 use Rattle.bits.specs.Bits.{number}
+use Rattle.std.proofs.lemmas.List.{take-take}
+use Rattle.bits.proofs.Parts.{length_part}
 use Rattle.bits.proofs.Slices.{chunk-at, chunk-bits, gather-part, part-lt, gather-next, next-lt}
 use Rattle.bits.proofs.number_of.Goals as goal
 use Rattle.bits.proofs.number_of.Goals.{In-loop-eight, In-loop-b}
@@ -26,6 +28,10 @@ module _ (c : In-loop-eight) where
       ap (λ (l : List (List ℕ)). get_or l c.loop-eight.eight-index []) c.as_chunks.ensures.front
       ∙ chunk-at (length c.args.s.now / 8) c.args.s.now c.loop-eight.eight-index (omega (arith, c.as_chunks.ensures.front_len))
 
+  -- the eight bits that are gathered
+  eight : take 8 (drop 0 (get_or c.as_chunks.result.0.now c.loop-eight.eight-index [])) ≡ take 8 (drop done c.args.s.now)
+  eight = ap (λ (l : List ℕ). take 8 l) chunk ∙ take-take 8 8 (drop done c.args.s.now) (omega arith)
+
   pushed : c.loop-eight.word * 256 + number (take 8 (drop done c.args.s.now)) < 2 ^ (done + 8)
   pushed = part-lt c.args.s.now done 8 c.loop-eight.word c.requires.1 inside c.loop-eight.invariant.0
 
@@ -40,18 +46,19 @@ overflow_mul-word c =
 pub gather-requires : goal.gather-requires
 gather-requires c =
     let d = (goal.at.gather-requires c).In-loop-eight in
-    rw (chunk d) (chunk-bits c.args.s.now (done d) c.requires.1)
+    rw (chunk d)
+    (omega (arith, length_part c.args.s.now (done d) 8 (inside d)), chunk-bits c.args.s.now (done d) c.requires.1)
 
 pub overflow_add-word : goal.overflow_add-word
 overflow_add-word c =
     let d = (goal.at.overflow_add-word c).In-loop-eight in
-    omega (arith, c.gather.ensures ∙ ap number (chunk d), pushed d, room d)
+    omega (arith, c.gather.ensures ∙ ap number (eight d), pushed d, room d)
 
 pub loop-eight-preserved : goal.loop-eight-preserved
 loop-eight-preserved c =
     let d = (goal.at.loop-eight-preserved c).In-loop-eight in
     let e : (c.loop-eight.eight-index + 1) * 8 ≡ done d + 8 = omega arith in
-    rw (e, c.gather.ensures, chunk d)
+    rw (e, c.gather.ensures, eight d)
     (pushed d, gather-part c.args.s.now (done d) 8 c.loop-eight.word (inside d) c.loop-eight.invariant.1)
 
 -- ---- one bit at a time

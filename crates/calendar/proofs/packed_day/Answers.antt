@@ -16,7 +16,7 @@ returns-then-day-ge-DAYS c = rw (le-ltb _ _ c.if-day-ge-DAYS.true)
 pub days_before-requires : goal.days_before-requires
 days_before-requires c =
     let day = c.args.day in
-    rw c.of_day-years.ensures (omega (arith, year-index day (placed day c.if-day-ge-DAYS.false)))
+    rw c.year_index-years.ensures (omega (arith, year-index day (placed day c.if-day-ge-DAYS.false)))
 
 module _ (c : After-days_before) where
   abbrev day : ℕ
@@ -26,7 +26,7 @@ module _ (c : After-days_before) where
   place = placed day c.if-day-ge-DAYS.false
 
   first : c.days_before.result ≡ before year_lengths (year_of_day day).index
-  first = c.days_before.ensures ∙ ap (before year_lengths) c.of_day-years.ensures
+  first = c.days_before.ensures ∙ ap (before year_lengths) c.year_index-years.ensures
 
   rest : day - c.days_before.result ≡ (year_of_day day).rest
   rest = ap (λ (n : ℕ). day - n) first ∙ sym (year-rest-is day place)
@@ -37,22 +37,22 @@ overflow_sub-day c =
 
 pub month_of_day-m-requires : goal.month_of_day-m-requires
 month_of_day-m-requires c =
-    rest-in-year (day (goal.at.month_of_day-m-requires c).After-days_before) (place (goal.at.month_of_day-m-requires c).After-days_before) c.of_day-years.result.since_first (day (goal.at.month_of_day-m-requires c).After-days_before - c.days_before.result) c.of_day-years.ensures (rest (goal.at.month_of_day-m-requires c).After-days_before)
+    rest-in-year (day (goal.at.month_of_day-m-requires c).After-days_before) (place (goal.at.month_of_day-m-requires c).After-days_before) c.year_index-years.result (day (goal.at.month_of_day-m-requires c).After-days_before - c.days_before.result) c.year_index-years.ensures (rest (goal.at.month_of_day-m-requires c).After-days_before)
 
 module _ (c : After-month_of_day-m) where
   months : c.month_of_day-m.result ≡ month_of_day (year_of_day (day c.before))
   months =
       let d = day c.before in
       c.month_of_day-m.ensures
-      ∙ month-of-rest d (place c.before) c.of_day-years.result.since_first (d - c.days_before.result) c.of_day-years.ensures (rest c.before)
+      ∙ month-of-rest d (place c.before) c.year_index-years.result (d - c.days_before.result) c.year_index-years.ensures (rest c.before)
 
-  small : (c.of_day-years.result.since_first < 100) × (c.month_of_day-m.result.index < 12) × (c.month_of_day-m.result.rest < 31)
+  small : (c.year_index-years.result < 100) × (c.month_of_day-m.result.index < 12) × (c.month_of_day-m.result.rest < 31)
   small =
       let d = day c.before in
       let p = place c.before in
       let index = ap (λ (m : Place). m.index) months in
       let left = ap (λ (m : Place). m.rest) months in
-      (omega (arith, c.of_day-years.ensures, year-index d p), omega (arith, index, month-index d p), omega (arith, left, month-rest d p))
+      (omega (arith, c.year_index-years.ensures, year-index d p), omega (arith, index, month-index d p), omega (arith, left, month-rest d p))
 
 pub overflow_mul-result : goal.overflow_mul-result
 overflow_mul-result c =
@@ -78,4 +78,4 @@ pub returns : goal.returns
 returns c =
     let m = months (goal.at.returns c).After-month_of_day-m in
     rw (lt-ltb _ _ c.if-day-ge-DAYS.false)
-    (omega (arith, c.of_day-years.ensures, ap (λ (p : Place). p.index) m, ap (λ (p : Place). p.rest) m))
+    (omega (arith, c.year_index-years.ensures, ap (λ (p : Place). p.index) m, ap (λ (p : Place). p.rest) m))

@@ -12,20 +12,20 @@ use Rattle.frame.proofs.time_frame.Goals as goal
 use Rattle.frame.proofs.time_frame.Goals.{After-time_part}
 
 pub time_part-requires : goal.time_part-requires
-time_part-requires c = (rw (c.from.ensures, c.encode-time.ensures) (time-lt c.args.minute.index), omega arith)
+time_part-requires c = (rw (c.from.ensures, c.encode-time.ensures) (time-lt c.args.minute), omega arith)
 
 module _ (c : After-time_part) where
   abbrev p : Plan
   p = c.args.plan
 
   abbrev m : ℕ
-  m = c.args.minute.index
+  m = c.args.minute
 
   abbrev w : ℕ
   w = c.time_part.result * 4096 + c.args.day
 
   word : w ≡ number (body_of (sent_by p m))
-  word = word-is p m _ _ _ c.args.minute.within c.encode-time.ensures (rw (c.from.ensures, c.from-2.ensures) at c.time_part.ensures) c.requires.1
+  word = word-is p m _ _ _ c.requires.1 c.encode-time.ensures (rw (c.from.ensures, c.from-2.ensures) at c.time_part.ensures) c.requires.2
 
   small : w < 2 ^ min_frame
   small = rw word (body-lt (sent_by p m) (unfold sent_by in notice-legal p c.requires.0))

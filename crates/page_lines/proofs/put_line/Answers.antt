@@ -17,9 +17,9 @@ pub column-requires : goal.column-requires
 unfolding entry_in
 column-requires c = (lit< tt, (lit≤ tt, omega (arith, c.requires.1.minute)))
 
-pub invariant_of-minute : goal.invariant_of-minute
+pub at_minute-requires : goal.at_minute-requires
 unfolding entry_in
-invariant_of-minute c = record { within = rw c.minute_in.ensures c.requires.1.minute }
+at_minute-requires c = rw c.minute_in-minute.ensures c.requires.1.minute
 
 pub column-requires-2 : goal.column-requires-2
 unfolding entry_in
@@ -35,7 +35,7 @@ returns c =
     let last : c.copy_from_slice-4.new.self ≡ c.last_columns.result = c.copy_from_slice-4.ensures.after in
     let text : c.copy_from_slice.new.self ++ c.copy_from_slice-2.new.self ++ c.copy_from_slice-3.new.self ++ c.copy_from_slice-4.new.self ≡ feed (line (entry_in c.args.entry.now)) =
     line_made (entry_in c.args.entry.now) _ _ _ _ _ _ _
-    c.minute_in.ensures
+    c.minute_in-minute.ensures
     c.at_minute.ensures
     c.from-seconds.ensures
     (first ∙ c.column.ensures)

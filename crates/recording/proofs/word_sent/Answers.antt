@@ -60,7 +60,7 @@ pub time_frame-requires : goal.time_frame-requires
 time_frame-requires c =
     let p : Plan = c.args.schedule.plan in
     let s : List ℕ = c.args.schedule.messages.now in
-    (plan-legal (schedule_of p s) c.requires.0, c.requires.2)
+    (plan-legal (schedule_of p s) c.requires.0, c.args.minute.within, c.requires.2)
 
 pub returns-else-minute-due : goal.returns-else-minute-due
 unfolding sent_by

@@ -11,7 +11,7 @@ use Rattle.calendar.proofs.Date.at_minute.Goals.{After-packed_day-packed}
 
 module _ (c : After-packed_day-packed) where
   abbrev day : ℕ
-  day = c.args.minute.index / 1440
+  day = c.args.minute / 1440
 
   real : day < day_count
   real = omega arith

@@ -67,14 +67,14 @@ month_start-requires c =
 -- the month's first day and the day make the day's number
 module _ (c : After-month_start) where
   abbrev self : Date
-  self = date c.before.before.before.before
+  self = date c.before.before.before
 
   number : c.month_start.result + (self.day - 1) ≡ day_number self
   unfolding day_number month_start
-  number = omega (arith, rw (same-year c.before.before.before.before) at c.month_start.ensures)
+  number = omega (arith, rw (same-year c.before.before.before) at c.month_start.ensures)
 
   small : day_number self < day_count
-  small = day-in-range self (passed c.before.before)
+  small = day-in-range self (passed c.before)
 
 pub overflow_sub-day : goal.overflow_sub-day
 overflow_sub-day c = omega (arith, passed (goal.at.overflow_sub-day c).Else-not-has_real_day)

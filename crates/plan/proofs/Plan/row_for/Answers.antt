@@ -13,7 +13,7 @@ pub returns-in-0 : goal.returns-in-0
 returns-in-0 c =
     let a = c.args in
     let e : a.self.kind ≡ 0 = omega arith in
-    c.next_row.ensures ∙ sym (row-for-0 a.self e a.minute.index a.daylight)
+    c.next_row.ensures ∙ sym (row-for-0 a.self e a.minute a.daylight)
 
 pub returns-in-3 : goal.returns-in-3
 unfolding row_for

@@ -4,8 +4,8 @@ use Rattle.amplitude_rules.proofs.Facts.{legal, legal-through}
 use Rattle.wwvb.specs.Amplitude.{accepted_reply}
 use Rattle.wwvb.proofs.amplitude.accepted.Goals as goal
 
-pub invariant_of-at_minute : goal.invariant_of-at_minute
-invariant_of-at_minute c = record { within = (legal c.args.values c.requires).minute }
+pub at_minute-date-requires : goal.at_minute-date-requires
+at_minute-date-requires c = (legal c.args.values c.requires).minute
 
 pub returns : goal.returns
 unfolding accepted_reply
