@@ -1,13 +1,21 @@
 -- What is shown of an answer. No section of the papers: the form of stored cases is the test programs' own.
 -- Assumes nothing.
-use Rattle.std.specs.Prelude.{ℕ, List, [], ◌∷◌, ◌++◌, decimal, Result, Option, None, Some}
+use Rattle.std.specs.Prelude.{ℕ, List, [], ◌∷◌, ◌++◌, codes, decimal, flat_map, Result, Option, None, Some}
 use Rattle.questions.specs.declared.Refusal.{Refusal}
 use Rattle.recording.specs.Answer.{write_numbers}
 
 -- numbers, each after a space
 abbrev pub numbers : List ℕ → List ℕ
-numbers [] = []
-numbers (n ∷ ns) = (32 ∷ decimal n) ++ numbers ns
+numbers ns = flat_map (λ n. 32 ∷ decimal n) ns
+
+-- bytes as digits, after a space
+abbrev pub in_digits : List ℕ → List ℕ
+in_digits s = 32 ∷ flat_map decimal s
+
+-- bytes after a bar, where there are any
+abbrev pub barred : List ℕ → List ℕ
+barred [] = []
+barred (b ∷ s) = codes " |" ++ numbers (b ∷ s)
 
 -- what is shown of an answer, where there is one
 abbrev pub shown : Option (Result ℕ Refusal) → List ℕ

@@ -1,4 +1,12 @@
 // Frames and recordings read.
+ghost use Rattle.std.specs.Prelude.{◌≡◌, OnOk, ◌∷◌, [], ◌++◌, length, take, drop, nat_le};
+ghost use Rattle.bits.specs.Bits.{pick};
+ghost use Rattle.std.specs.Io.KnownBytes.{Appends};
+ghost use Rattle.entries.specs.Answer.{end_number};
+ghost use Rattle.trials.specs.declared.reading.As.TheVariants.{RecordingIn};
+ghost use Rattle.trials.specs.Shown.{numbers};
+ghost use Rattle.trials.specs.Tried.{due_in, told_due, told, entries_after, shows_entries, read_as, given_as, resumed_twice};
+
 use crate::show;
 use entries::{ENTRY_SIZE, Summary};
 use format::Due;
@@ -21,15 +29,28 @@ pub enum As {
     LongRecording,
 }
 
+impl As {
+    // Whether the entry bytes are shown.
+    fn shows_entries(self) -> bool
+        ensures { result ≡ shows_entries self }
+    {
+        !matches!(self, As::LongRecording)
+    }
+}
+
 // Of a recording: the entries, the bits used, and the refusal or 0.
-fn summary<W: Write>(to: &mut W, answer: Summary) -> io::Result<()> {
+fn summary<W: Write>(to: &mut W, answer: Summary) -> io::Result<()>
+    ensures { OnOk result (Appends (W.contents to.old) (W.contents to.new) (numbers (answer.entries ∷ answer.used ∷ end_number answer.end ∷ []))) }
+{
     show::size(to, answer.entries)?;
     show::size(to, answer.used)?;
     show::outcome(to, answer.end)
 }
 
 // The state after a reading: the minute expected, and the leap state last read in its month, 3 where none was.
-fn state<W: Write>(to: &mut W, due: Due) -> io::Result<()> {
+fn state<W: Write>(to: &mut W, due: Due) -> io::Result<()>
+    ensures { OnOk result (Appends (W.contents to.old) (W.contents to.new) (told_due due)) }
+{
     show::text(to, b", then")?;
     match due {
         Due::Any => show::text(to, b" any"),
@@ -38,7 +59,10 @@ fn state<W: Write>(to: &mut W, due: Due) -> io::Result<()> {
 }
 
 // Reads the bits into the entry bytes: what reading gives, and in a state the state after it.
-fn read_into<W: Write>(to: &mut W, bits: &[u8], entries: &mut [u8], how: As) -> io::Result<()> {
+fn read_into<W: Write>(to: &mut W, bits: &[u8], entries: &mut [u8], how: As) -> io::Result<()>
+    ensures shown { OnOk result (Appends (W.contents to.old) (W.contents to.new) (told how entries.old bits.now)) }
+    ensures entries { entries.new ≡ entries_after how entries.old bits.now }
+{
     match how {
         As::Frame => {
             let answer = entries::read_one(bits, entries, Due::Any);
@@ -58,21 +82,42 @@ fn read_into<W: Write>(to: &mut W, bits: &[u8], entries: &mut [u8], how: As) -> 
     }
 }
 
+// Reads the bits into the front of the entry bytes, where there are so many.
+fn read_front<W: Write>(
+    to: &mut W,
+    bits: &[u8],
+    entries: &mut [u8],
+    space: usize,
+    how: As,
+) -> io::Result<()>
+    ensures shown { OnOk result (Appends (W.contents to.old) (W.contents to.new) (pick (nat_le space (length entries.old)) (told how (take space entries.old) bits.now) [])) }
+    ensures entries { entries.new ≡ pick (nat_le space (length entries.old)) (entries_after how (take space entries.old) bits.now ++ drop space entries.old) entries.old }
+{
+    if space <= entries.len() {
+        read_into(to, bits, &mut entries[..space], how)?;
+    }
+    Ok(())
+}
+
 // Reads the bits with so many entry bytes: what reading gives, and, but for a long recording, these bytes with two more.
-pub fn read<W: Write>(to: &mut W, bits: &[u8], space: usize, how: As) -> io::Result<()> {
+#[tactic(auto, unfolding(crate::specs::Tried::read_as))]
+pub fn read<W: Write>(to: &mut W, bits: &[u8], space: usize, how: As) -> io::Result<()>
+    ensures { OnOk result (Appends (W.contents to.old) (W.contents to.new) (read_as how space bits.now)) }
+{
     let mut entries = [7u8; ENTRY_SPACE + 2];
     show::mark(to, b':')?;
-    if let Some(front) = entries.get_mut(..space) {
-        read_into(to, bits, front, how)?;
-    }
-    if !matches!(how, As::LongRecording) && space <= ENTRY_SPACE {
+    read_front(to, bits, &mut entries, space, how)?;
+    if how.shows_entries() && space <= ENTRY_SPACE {
         show::bytes(to, &entries[..space + 2])?;
     }
     Ok(())
 }
 
 // Reads given bits; the first number is the entry space.
-pub fn given<W: Write>(to: &mut W, text: &[u8], digits: &[u8], how: As) -> io::Result<()> {
+#[tactic(auto, unfolding(crate::specs::Tried::given_as, crate::specs::Tried::bits_in))]
+pub fn given<W: Write>(to: &mut W, text: &[u8], digits: &[u8], how: As) -> io::Result<()>
+    ensures { OnOk result (Appends (W.contents to.old) (W.contents to.new) (given_as how text.now digits.now)) }
+{
     let mut space = [0u8; BIT_SPACE];
     let Some(bits) = space.get_mut(..digits.len()) else {
         return Ok(());
@@ -82,18 +127,26 @@ pub fn given<W: Write>(to: &mut W, text: &[u8], digits: &[u8], how: As) -> io::R
 }
 
 // The state that the numbers after the first are.
-fn due_in(text: &[u8]) -> Due {
+#[tactic(auto, unfolding(crate::specs::Tried::due_in))]
+fn due_in(text: &[u8]) -> Due
+    ensures { result ≡ due_in text.now }
+{
     let leap = (cases::number(text, 2) % 256) as u8;
     Due::Minute(cases::number(text, 1), leap)
 }
 
 // Reads given bits in a state as a recording.
-pub fn resumed<W: Write>(to: &mut W, text: &[u8], digits: &[u8]) -> io::Result<()> {
+pub fn resumed<W: Write>(to: &mut W, text: &[u8], digits: &[u8]) -> io::Result<()>
+    ensures { OnOk result (Appends (W.contents to.old) (W.contents to.new) (given_as (RecordingIn (due_in text.now)) text.now digits.now)) }
+{
     given(to, text, digits, As::RecordingIn(due_in(text)))
 }
 
 // The same, as one frame before.
-pub fn resumed_twice<W: Write>(to: &mut W, text: &[u8], digits: &[u8]) -> io::Result<()> {
+#[tactic(auto, unfolding(crate::specs::Tried::resumed_twice))]
+pub fn resumed_twice<W: Write>(to: &mut W, text: &[u8], digits: &[u8]) -> io::Result<()>
+    ensures { OnOk result (Appends (W.contents to.old) (W.contents to.new) (resumed_twice text.now digits.now)) }
+{
     given(to, text, digits, As::FrameIn(due_in(text)))?;
     resumed(to, text, digits)
 }
