@@ -7,7 +7,7 @@ use Rattle.std.proofs.lemmas.List.FromFn.{fill_by_all}
 use Rattle.std.proofs.lemmas.Bool.{le-leb}
 use Rattle.cases.specs.Cases.{number_at, plan_in, message_byte}
 use Rattle.messages.specs.Bytes.{schedule_of}
-use Rattle.trials.specs.Tried.{has_messages, schedule_in}
+use Rattle.trials.specs.Tried.{messages_fit, schedule_in}
 
 -- bytes that are known one by one
 pub all-given : (f : ℕ → ℕ) (xs : List ℕ) → ((i : ℕ) → i < length xs → slice_index xs i ≡ f i) → xs ≡ map f (range_with_len 0 (length xs))
@@ -22,8 +22,8 @@ front-given f xs n l h =
 -- a plan with the first bytes of the messages
 pub schedule-given : (k : ℕ) (text bytes : List ℕ) {size : ℕ} {messages : List ℕ} → length bytes ≡ 50 → ((i : ℕ) → i < 50 → slice_index bytes i ≡ message_byte k text i)
     → size ≡ number_at k text → size ≤ length bytes → messages ≡ slice_range bytes 0 size
-    → (has_messages k text ≡ true) × (schedule_of (plan_in text) messages ≡ schedule_in k text)
-unfolding has_messages schedule_in
+    → (messages_fit k text ≡ true) × (schedule_of (plan_in text) messages ≡ schedule_in k text)
+unfolding messages_fit schedule_in
 schedule-given k text bytes {size} {messages} long h e l m =
     let given : messages ≡ map (message_byte k text) (range_with_len 0 size) =
     m ∙ ap (λ n. take n bytes) (omega arith) ∙ front-given (message_byte k text) bytes size l (λ i less. h i (omega (arith, less, long))) in

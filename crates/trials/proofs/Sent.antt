@@ -6,15 +6,15 @@ use Rattle.messages.specs.Message.{Schedule}
 use Rattle.cases.specs.Cases.{number_at}
 use Rattle.sequence.specs.Writing.{write_refusal, write_result}
 use Rattle.sequence.proofs.Refusals.{fits, write_done}
-use Rattle.trials.specs.Tried.{schedule_in, has_messages, written, buffer_after, bits_sent}
+use Rattle.trials.specs.Tried.{schedule_in, messages_fit, writing_gives, buffer_after, sent_bits}
 
 pub record Front (count k : ℕ) (text buffer : List ℕ) : Type 0 where
-  pub room : (written count k (length buffer) text).bits ≤ length buffer
-  pub front : take (written count k (length buffer) text).bits (buffer_after count k buffer text) ≡ bits_sent count k (length buffer) text
+  pub room : (writing_gives count k (length buffer) text).bits ≤ length buffer
+  pub front : take (writing_gives count k (length buffer) text).bits (buffer_after count k buffer text) ≡ sent_bits count k (length buffer) text
 
 pub front-sent : (count k : ℕ) (text buffer : List ℕ) → Front count k text buffer
-unfolding written buffer_after bits_sent write_result
-front-sent count k text buffer = given (has_messages k text) refl
+unfolding writing_gives buffer_after sent_bits write_result
+front-sent count k text buffer = given (messages_fit k text) refl
   where
     p : Schedule
     p = schedule_in k text
@@ -22,7 +22,7 @@ front-sent count k text buffer = given (has_messages k text) refl
     m : ℕ
     m = number_at 6 text
 
-    answered : has_messages k text ≡ true → (r : ℕ) → write_refusal p m count (length buffer) ≡ r → Front count k text buffer
+    answered : messages_fit k text ≡ true → (r : ℕ) → write_refusal p m count (length buffer) ≡ r → Front count k text buffer
     answered e zero a =
         let done = write_done p m count buffer a in
         record {
@@ -31,6 +31,6 @@ front-sent count k text buffer = given (has_messages k text) refl
         }
     answered e (suc r) a = let no = ne_eqb (suc r) 0 (λ z. omega (arith, z)) in record { room = rw (e, a, no) (omega arith); front = rw (e, a, no) refl }
 
-    given : (b : Bool) → has_messages k text ≡ b → Front count k text buffer
+    given : (b : Bool) → messages_fit k text ≡ b → Front count k text buffer
     given true e = answered e (write_refusal p m count (length buffer)) refl
     given false e = record { room = rw e (omega arith); front = rw e refl }

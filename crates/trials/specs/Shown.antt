@@ -5,8 +5,8 @@ use Rattle.questions.specs.declared.Refusal.{Refusal}
 use Rattle.recording.specs.Answer.{write_numbers}
 
 -- numbers, each after a space
-abbrev pub numbers : List ℕ → List ℕ
-numbers ns = flat_map (λ n. 32 ∷ decimal n) ns
+abbrev pub spaced : List ℕ → List ℕ
+spaced ns = flat_map (λ n. 32 ∷ decimal n) ns
 
 -- bytes as digits, after a space
 abbrev pub in_digits : List ℕ → List ℕ
@@ -15,7 +15,7 @@ in_digits s = 32 ∷ flat_map decimal s
 -- bytes after a bar, where there are any
 abbrev pub barred : List ℕ → List ℕ
 barred [] = []
-barred (b ∷ s) = codes " |" ++ numbers (b ∷ s)
+barred (b ∷ s) = codes " |" ++ spaced (b ∷ s)
 
 -- what is shown of an answer, where there is one
 abbrev pub shown : Option (Result ℕ Refusal) → List ℕ

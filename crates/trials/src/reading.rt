@@ -4,7 +4,7 @@ ghost use Rattle.bits.specs.Bits.{pick};
 ghost use Rattle.std.specs.Io.KnownBytes.{Appends};
 ghost use Rattle.entries.specs.Answer.{end_number};
 ghost use Rattle.trials.specs.declared.reading.As.TheVariants.{RecordingIn};
-ghost use Rattle.trials.specs.Shown.{numbers};
+ghost use Rattle.trials.specs.Shown.{spaced};
 ghost use Rattle.trials.specs.Tried.{due_in, told_due, told, entries_after, shows_entries, read_as, given_as, resumed_twice};
 
 use crate::show;
@@ -40,7 +40,7 @@ impl As {
 
 // Of a recording: the entries, the bits used, and the refusal or 0.
 fn summary<W: Write>(to: &mut W, answer: Summary) -> io::Result<()>
-    ensures { OnOk result (Appends (W.contents to.old) (W.contents to.new) (numbers (answer.entries ∷ answer.used ∷ end_number answer.end ∷ []))) }
+    ensures { OnOk result (Appends (W.contents to.old) (W.contents to.new) (spaced (answer.entries ∷ answer.used ∷ end_number answer.end ∷ []))) }
 {
     show::size(to, answer.entries)?;
     show::size(to, answer.used)?;
@@ -82,7 +82,7 @@ fn read_into<W: Write>(to: &mut W, bits: &[u8], entries: &mut [u8], how: As) -> 
     }
 }
 
-// Reads the bits into the front of the entry bytes, where there are so many.
+// Reads the bits into the first entry bytes: as many as `space`, or none where there are fewer.
 fn read_front<W: Write>(
     to: &mut W,
     bits: &[u8],
@@ -113,8 +113,8 @@ pub fn read<W: Write>(to: &mut W, bits: &[u8], space: usize, how: As) -> io::Res
     Ok(())
 }
 
-// Reads given bits; the first number is the entry space.
-#[tactic(auto, unfolding(crate::specs::Tried::given_as, crate::specs::Tried::bits_in))]
+// Reads given bits; the first number is the entry space. Of more bits than there is space for nothing is shown.
+#[tactic(auto, unfolding(crate::specs::Tried::given_as, crate::specs::Tried::given_bits))]
 pub fn given<W: Write>(to: &mut W, text: &[u8], digits: &[u8], how: As) -> io::Result<()>
     ensures { OnOk result (Appends (W.contents to.old) (W.contents to.new) (given_as how text.now digits.now)) }
 {

@@ -24,4 +24,4 @@ returns-else-shows_entries g c =
     let space = c.args.space in
     let f = c.args.bits.now in
     rw (← c.shows_entries.ensures, none-shown space c.else-shows_entries.either, ← told-front how space f)
-    (Appends-trans _ _ _ _ _ c.in_ok-mark.ensures (Appends-trans _ _ _ _ _ c.in_ok-read_front.ensures.shown (Appends-nil _)))
+    (Appends-trans _ _ _ _ _ c.in_ok-mark.ensures (Appends-trans _ _ _ _ _ c.in_ok-read_front.ensures.shown (Appends-nil (g.W.Write.contents c.read_front.new.to))))

@@ -5,7 +5,7 @@ use Rattle.std.specs.Result.{result_unwrap_or}
 use Rattle.recording.specs.Answer.{write_numbers}
 use Rattle.sequence.specs.Writing.{WriteNumbers}
 use Rattle.questions.specs.declared.Refusal.{Refusal}
-use Rattle.trials.specs.Tried.{bits_sent}
+use Rattle.trials.specs.Tried.{sent_bits}
 use Rattle.trials.proofs.Sent.{front-sent}
 use Rattle.trials.proofs.sending.sent_bits.Goals as goal
 
@@ -23,4 +23,4 @@ pub returns : goal.returns
 returns c =
     let e = bits-given c.write.result _ c.unwrap_or-n.result c.unwrap_or-n.ensures c.write.ensures.numbers in
     rw (e, c.write.ensures.buffer) (front-sent c.args.count c.args.k c.args.text.now c.args.space.now).front
-    ∙ ap (λ space. bits_sent c.args.count c.args.k space c.args.text.now) c.told-space
+    ∙ ap (λ space. sent_bits c.args.count c.args.k space c.args.text.now) c.told-space

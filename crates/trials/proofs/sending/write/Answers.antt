@@ -2,12 +2,12 @@
 -- Assumes nothing.
 use Rattle.std.proofs.Common.{◌∙◌, ap, refl}
 use Rattle.cases.specs.Cases.{number_at}
-use Rattle.trials.specs.Tried.{written, buffer_after}
+use Rattle.trials.specs.Tried.{writing_gives, buffer_after}
 use Rattle.trials.proofs.Given.{schedule-given}
 use Rattle.trials.proofs.sending.write.Goals as goal
 
 pub returns-clause-numbers : goal.returns-clause-numbers
-unfolding written
+unfolding writing_gives
 returns-clause-numbers c =
     let got = c.in-Some.ensures.lookup.0 in
     let size-is = c.size.ensures ∙ ap (λ k. number_at k c.args.text.now) c.from.ensures in
