@@ -16,11 +16,11 @@ bits-given (Err r) w n e h = e ∙ ap (λ v. v.bits) h
 
 pub shared_ref_as_front-result : goal.shared_ref_as_front-result
 shared_ref_as_front-result c =
-    let e = bits-given c.write.result _ c.unwrap_or-n.result c.unwrap_or-n.ensures c.write.ensures.numbers in
+    let e = bits-given c.write.result _ c.unwrap_or-n.result c.unwrap_or-n.ensures c.write.ensures.written.0 in
     omega (arith, e, (front-sent c.args.count c.args.k c.args.text.now c.args.space.now).room, c.told-space)
 
 pub returns : goal.returns
 returns c =
-    let e = bits-given c.write.result _ c.unwrap_or-n.result c.unwrap_or-n.ensures c.write.ensures.numbers in
-    rw (e, c.write.ensures.buffer) (front-sent c.args.count c.args.k c.args.text.now c.args.space.now).front
+    let e = bits-given c.write.result _ c.unwrap_or-n.result c.unwrap_or-n.ensures c.write.ensures.written.0 in
+    rw (e, c.write.ensures.written.1) (front-sent c.args.count c.args.k c.args.text.now c.args.space.now).front
     ∙ ap (λ space. sent_bits c.args.count c.args.k space c.args.text.now) c.told-space
